@@ -1,0 +1,9 @@
+pub mod Bools
+pub mod Each
+pub mod Numbers
+pub mod Fields
+pub mod Turns
+pub mod Writing
+pub mod Refusal
+pub mod Writes
+pub mod Unique

@@ -1,0 +1,55 @@
+-- The law of refusals: the answer is n just where rule n holds and no earlier one does, and 0 just where none holds.
+-- Assumes nothing.
+use mathlib.Core.Path.{_≡_, refl, sym, ap, _∙_}
+use mathlib.Core.Bool.{Bool, true, false}
+use mathlib.Core.List.{List, [], _∷_, _++_}
+use Prim.Native.Nat.{ℕ, zero, suc}
+use native.Mathlib.Omega.{arith}
+use lib.Dec.{T}
+use Rattle.wire.specs.Refusal.{Rule, _when_, pick, first, NoneHolds, FirstIs, numbered}
+
+pub first-skips : (rs ss : List Rule) → NoneHolds rs → first (rs ++ ss) ≡ first ss
+unfolding pick
+first-skips [] ss h = refl
+first-skips ((n when b) ∷ rs) ss h = rw (h .0) (first-skips rs ss (h .1))
+
+pub first-none : (rs : List Rule) → NoneHolds rs → first rs ≡ 0
+unfolding pick
+first-none [] h = refl
+first-none ((n when b) ∷ rs) h = rw (h .0) (first-none rs (h .1))
+
+pub none-first : (rs : List Rule) → T (numbered rs) → first rs ≡ 0 → NoneHolds rs
+unfolding pick
+none-first [] t e = tt
+none-first ((zero when b) ∷ rs) t e = absurd t
+none-first ((suc n when true) ∷ rs) t e = absurd (omega arith)
+none-first ((suc n when false) ∷ rs) t e = (refl, none-first rs t e)
+
+pub first-is : (rs : List Rule) (n : ℕ) → FirstIs rs n → first rs ≡ n
+unfolding pick
+first-is rs n h = ap first (h .2) ∙ first-skips (h .0) ((n when true) ∷ h .1) (h .3)
+
+pub is-first : (rs : List Rule) (n : ℕ) → first rs ≡ suc n → FirstIs rs (suc n)
+unfolding pick
+is-first [] n e = absurd (omega arith)
+is-first ((m when true) ∷ rs) n e = ([], rs, ap (λ (k : ℕ). (k when true) ∷ rs) e, tt)
+is-first ((m when false) ∷ rs) n e =
+    let more = is-first rs n e in
+    ((m when false) ∷ more .0, more .1, ap (λ (l : List Rule). (m when false) ∷ l) (more .2), (refl, more .3))
+
+-- demand 1 of a list of rules, all of it
+pub refusal-law : (rs : List Rule) → T (numbered rs)
+    → ((n : ℕ) → (first rs ≡ suc n → FirstIs rs (suc n)) × (FirstIs rs (suc n) → first rs ≡ suc n))
+    × (first rs ≡ 0 → NoneHolds rs)
+    × (NoneHolds rs → first rs ≡ 0)
+refusal-law rs t = ((λ n. (is-first rs n, first-is rs (suc n))), none-first rs t, first-none rs)
+
+-- ---- for the code, which asks one condition after another: r is what a function answered that tests b. `search (hit, skip) depth 12`
+-- proves from these what a `return` owes
+pub hit : (r b : Bool) (n m : ℕ) → r ≡ b → r ≡ true → n ≡ pick b n m
+unfolding pick
+hit r b n m e t = sym (ap (λ (x : Bool). pick x n m) (sym e ∙ t))
+
+pub skip : (r b : Bool) (n m k : ℕ) → r ≡ b → r ≡ false → k ≡ m → k ≡ pick b n m
+unfolding pick
+skip r b n m k e t h = h ∙ sym (ap (λ (x : Bool). pick x n m) (sym e ∙ t))

@@ -1,0 +1,38 @@
+-- What every writer owes: at a refusal, at none, and that no second answer would do.
+-- Assumes nothing.
+use mathlib.Core.Path.{_≡_, refl, sym, ap, ap₂, _∙_, subst}
+use mathlib.Core.List.{List}
+use Prim.Native.Nat.{ℕ, zero, suc}
+use native.Mathlib.Omega.{arith}
+use lib.ListN.{length}
+use Rattle.wire.specs.Numbers.{over}
+use Rattle.wire.specs.Writes.{Writes, writeAnswer, writeOutput}
+use Rattle.wire.specs.declared.Written.{Written}
+use Rattle.wire.specs.declared.Written.the-variants.{Length, Refused}
+
+module _ (bs out : List ℕ) where
+  -- a refusal k + 1, which is the first
+  pub writes-refused : (k n : ℕ) → suc k ≡ n → Writes n bs out (Refused (suc k)) out
+  writes-refused k n e = subst (λ (m : ℕ). Writes m bs out (Refused (suc k)) out) e (record { answer = refl; output = refl })
+
+  -- none
+  pub writes-all : (n l : ℕ) (out′ : List ℕ) → 0 ≡ n → l ≡ length bs → out′ ≡ over out bs → Writes n bs out (Length l) out′
+  writes-all n l out′ e el eo =
+      subst (λ (m : ℕ). Writes m bs out (Length l) out′) e (record { answer = ap Length el; output = eo })
+
+  -- what a callee has shown of its own, later rules
+  pub writes-as : (n m : ℕ) (r : Written) (out′ : List ℕ) → n ≡ m → Writes n bs out r out′ → Writes m bs out r out′
+  writes-as n m r out′ e w = subst (λ (k : ℕ). Writes k bs out r out′) e w
+
+  pub writes-once : (n : ℕ) (r r′ : Written) (o o′ : List ℕ) → Writes n bs out r o → Writes n bs out r′ o′ → _≡_ {A = Written × List ℕ} (r, o) (r′, o′)
+  writes-once n r r′ o o′ w w′ = ap₂ (λ (x : Written) (y : List ℕ). (x, y)) (w .answer ∙ sym (w′ .answer)) (w .output ∙ sym (w′ .output))
+
+-- an answered length says that nothing was refused, and what the output holds
+pub wrote : (n : ℕ) (bs out : List ℕ) (r : Written) (out′ : List ℕ) (k : ℕ) → Writes n bs out r out′ → r ≡ Length k → (n ≡ 0) × (k ≡ length bs) × (out′ ≡ over out bs)
+wrote zero bs out r out′ k w e =
+    let same : Length k ≡ Length (length bs) = sym e ∙ w .answer in
+    (refl, (cc), w .output)
+wrote (suc n) bs out r out′ k w e =
+    let same : Length k ≡ Refused (suc n) = sym e ∙ w .answer in
+    let z : _≡_ {A = ℕ} 0 1 = cc in
+    absurd (omega arith)
