@@ -7,9 +7,11 @@ use native.Mathlib.Nat.{pow-suc, pow-le-pow-right, sub-self, pow-zero, zero-add,
 use native.Mathlib.Numerals.{add-one}
 use native.Mathlib.Omega.{arith}
 use lib.Arith.{digits-lt}
-use lib.Dec.{lit<}
-use lib.ListN.{length, getD, drop, set}
-use lib.Seq.{getD-drop, sets, set-out}
+use lib.Dec.{lit<, ltb}
+use mathlib.Core.Bool.{Bool, true, false}
+use borrow.Author.Tests.{ltb-true, ltb-false}
+use lib.ListN.{length, getD, drop, drop-of-length-le, List·getD-eq-default}
+use lib.Seq.{getD-drop, drop-cons}
 use Rattle.wire.specs.Numbers.{digits, number, le, ofLe, field}
 
 -- the bytes of a part from its beginning are the bytes of the whole from the part's place
@@ -24,8 +26,27 @@ pub field-of-rest : (s : List ℕ) (at w : ℕ) → field (drop at s) 0 w ≡ fi
 field-of-rest s at w = field-drop s at 0 w ∙ ap (λ (k : ℕ). field s k w) (add-zero at)
 
 -- what the first bytes say of what is left from a place on, the bytes at that place say
-pub read-at : (says : List ℕ → ℕ) (s p : List ℕ) (at w r : ℕ) → r ≡ says (field p 0 w) → p ≡ drop at s → r ≡ says (field s at w)
+pub read-at : {A : Type 0} (says : List ℕ → A) (s p : List ℕ) (at w : ℕ) (r : A) → r ≡ says (field p 0 w) → p ≡ drop at s → r ≡ says (field s at w)
 read-at says s p at w r e ep = e ∙ ap (λ (l : List ℕ). says (field l 0 w)) ep ∙ ap says (field-of-rest s at w)
+
+-- bytes past the end add nothing
+pub ofLe-past : (s : List ℕ) (at w : ℕ) → length s ≤ at + w → ofLe (field s at w) ≡ ofLe (drop at s)
+unfolding ofLe number field
+ofLe-past s at zero h = sym (ap ofLe (drop-of-length-le s {i = at} (omega arith)))
+ofLe-past s at (suc w) h = go (ltb at (length s)) refl (ofLe-past s (at + 1) w (omega arith))
+  where
+    go : (t : Bool) → ltb at (length s) ≡ t → ofLe (field s (at + 1) w) ≡ ofLe (drop (at + 1) s) → ofLe (field s at (suc w)) ≡ ofLe (drop at s)
+    go true e more =
+        let within : at < length s = ltb-true at (length s) e in
+        ap (λ (n : ℕ). getD s at 0 + 256 * n) more ∙ sym (ap ofLe (drop-cons s at 0 within ∙ ap (λ (k : ℕ). getD s at 0 ∷ drop k s) (sym (add-one at))))
+    go false e more =
+        let past : length s ≤ at = ltb-false at (length s) e in
+        let later : length s ≤ at + 1 = omega arith in
+        ap₂ (λ (b n : ℕ). b + 256 * n) (List·getD-eq-default s 0 past) (more ∙ ap ofLe (drop-of-length-le s later))
+        ∙ sym (ap ofLe (drop-of-length-le s past))
+
+pub ofLe-whole : (s : List ℕ) (w : ℕ) → length s ≤ w → ofLe (field s 0 w) ≡ ofLe s
+ofLe-whole s w h = ofLe-past s 0 w (omega arith)
 
 -- ---- reading, from the last byte to the first
 

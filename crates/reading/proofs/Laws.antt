@@ -1,0 +1,106 @@
+-- Kind and bits are all that a reading is; and it is absent just where each of its bytes is FF, once over the width.
+-- Assumes nothing.
+use mathlib.Core.Path.{_≡_, refl, sym, ap, ap₂, _∙_, subst}
+use mathlib.Core.Bool.{Bool, true, false, _&&_}
+use mathlib.Core.List.{List, [], _∷_}
+use Prim.Native.Nat.{ℕ, zero, suc, _+_, _-_, _*_, _%_, _^_, _<_, _≤_}
+use native.Mathlib.Nat.{pow-suc, pow-zero, one-le-pow, mod-eq-of-lt}
+use native.Mathlib.Omega.{arith}
+use lib.Dec.{eqb, lit<}
+use lib.ListN.{length}
+use borrow.Author.Tests.{eq-eqb, ne-eqb, eqb-true, eqb-false}
+use Rattle.wire.specs.Each.{Each, Bytes}
+use Rattle.wire.specs.Numbers.{ofLe, number}
+use Rattle.wire.proofs.Numbers.{number-lt}
+use Rattle.reading.specs.Reading.{widthOf, numberOf, kindFrom, readingOf, bitsOf, kindOf, isAbsent, same}
+use Rattle.reading.specs.Values.{allFF}
+use Rattle.reading.specs.declared.Kind.{Kind}
+use Rattle.reading.specs.declared.Kind.the-variants as K
+use Rattle.reading.specs.declared.Reading.{Reading}
+use Rattle.reading.specs.declared.Reading.the-variants.{F32, F64, U32, U64}
+
+-- a kind's number, read again
+pub kind-reads-back : (k : Kind) → kindFrom (numberOf k) ≡ k
+kind-reads-back K.F32 = refl
+kind-reads-back K.F64 = refl
+kind-reads-back K.U32 = refl
+kind-reads-back K.U64 = refl
+
+-- ---- sameness
+
+made : ℕ → ℕ → Reading
+made n bits = go (kindFrom n)
+  where
+    go : Kind → Reading
+    go K.F32 = F32 bits
+    go K.F64 = F64 bits
+    go K.U32 = U32 bits
+    go K.U64 = U64 bits
+
+whole : (r : Reading) → made (numberOf (kindOf r)) (bitsOf r) ≡ r
+unfolding made
+whole (F32 n) = refl
+whole (F64 n) = refl
+whole (U32 n) = refl
+whole (U64 n) = refl
+
+both : (a b : Bool) → (a && b) ≡ true → (a ≡ true) × (b ≡ true)
+both true b e = (refl, e)
+both false b e = absurd (let z : _≡_ {A = ℕ} 0 1 = cc in omega arith)
+
+-- readings that are the same are one, and one is the same as itself: a NaN too, and +0 is not -0
+pub same-is-one : (a b : Reading) → same a b ≡ true → a ≡ b
+same-is-one a b e =
+    let t = both (eqb (numberOf (kindOf a)) (numberOf (kindOf b))) (eqb (bitsOf a) (bitsOf b)) e in
+    sym (whole a) ∙ ap₂ made (eqb-true (numberOf (kindOf a)) (numberOf (kindOf b)) (t .0)) (eqb-true (bitsOf a) (bitsOf b) (t .1)) ∙ whole b
+
+pub same-as-itself : (a : Reading) → same a a ≡ true
+same-as-itself a = ap₂ (λ (x y : Bool). x && y) (eq-eqb (numberOf (kindOf a)) (numberOf (kindOf a)) refl) (eq-eqb (bitsOf a) (bitsOf a) refl)
+
+-- ---- absence
+
+-- all ones one byte longer
+longer : (p : ℕ) → 1 ≤ p → p * 256 - 1 ≡ 255 + 256 * (p - 1)
+longer p h = omega arith
+
+ones : (b n p : ℕ) → b < 256 → n < p → eqb (b + 256 * n) (p * 256 - 1) ≡ (eqb b 255 && eqb n (p - 1))
+ones b n p hb hn = go (eqb b 255) refl (eqb n (p - 1)) refl
+  where
+    go : (x : Bool) → eqb b 255 ≡ x → (y : Bool) → eqb n (p - 1) ≡ y → eqb (b + 256 * n) (p * 256 - 1) ≡ (eqb b 255 && eqb n (p - 1))
+    go true ex true ey =
+        let e = eqb-true b 255 ex in
+        let f = eqb-true n (p - 1) ey in
+        rw (ex, ey) (eq-eqb (b + 256 * n) (p * 256 - 1) (omega arith))
+    go true ex false ey =
+        let e = eqb-true b 255 ex in
+        let f = eqb-false n (p - 1) ey in
+        rw (ex, ey) (ne-eqb (b + 256 * n) (p * 256 - 1) (λ g. f (omega arith)))
+    go false ex y ey =
+        let e = eqb-false b 255 ex in
+        rw ex (ne-eqb (b + 256 * n) (p * 256 - 1) (λ g. e (omega arith)))
+
+-- the number of bytes is all ones just where each byte is FF
+pub absent-bytes : (bs : List ℕ) → Bytes bs → eqb (ofLe bs) (256 ^ length bs - 1) ≡ allFF bs
+unfolding ofLe number allFF
+absent-bytes [] h = refl
+absent-bytes (b ∷ bs) h =
+    ap (λ (p : ℕ). eqb (b + 256 * number 256 bs) (p - 1)) (pow-suc 256 (length bs))
+    ∙ ones b (number 256 bs) (256 ^ length bs) (h .0) (number-lt 256 (lit< tt) bs (h .1))
+    ∙ ap (λ (t : Bool). eqb b 255 && t) (absent-bytes bs (h .1))
+
+-- the bits of a reading of a kind are the number, and its kind is the kind
+bits-of : (k : Kind) (n : ℕ) → n < 256 ^ widthOf k → (bitsOf (readingOf k n) ≡ n) × (kindOf (readingOf k n) ≡ k)
+bits-of K.F32 n h = (mod-eq-of-lt h, refl)
+bits-of K.F64 n h = (refl, refl)
+bits-of K.U32 n h = (mod-eq-of-lt h, refl)
+bits-of K.U64 n h = (refl, refl)
+
+-- a reading of a kind's bytes is absent just where each is FF
+pub absent-is-all-FF : (k : Kind) (bs : List ℕ) → Bytes bs → length bs ≡ widthOf k → isAbsent (readingOf k (ofLe bs)) ≡ allFF bs
+unfolding ofLe
+absent-is-all-FF k bs h e =
+    let fits : ofLe bs < 256 ^ widthOf k = subst (λ (n : ℕ). ofLe bs < 256 ^ n) e (number-lt 256 (lit< tt) bs h) in
+    let o = bits-of k (ofLe bs) fits in
+    ap₂ (λ (x : ℕ) (y : Kind). eqb x (256 ^ widthOf y - 1)) (o .0) (o .1)
+    ∙ ap (λ (n : ℕ). eqb (ofLe bs) (256 ^ n - 1)) (sym e)
+    ∙ absent-bytes bs h

@@ -1,0 +1,5 @@
+pub mod Answers
+pub mod Masks
+pub mod Search
+pub mod Laws
+pub mod Unique
