@@ -37,6 +37,25 @@ is-first ((m when false) ∷ rs) n e =
     let more = is-first rs n e in
     ((m when false) ∷ more .0, more .1, ap (λ (l : List Rule). (m when false) ∷ l) (more .2), (refl, more .3))
 
+-- two stretches of rules
+pub numbered-append : (rs ss : List Rule) → T (numbered rs) → T (numbered ss) → T (numbered (rs ++ ss))
+numbered-append [] ss t u = u
+numbered-append ((zero when b) ∷ rs) ss t u = absurd t
+numbered-append ((suc n when b) ∷ rs) ss t u = numbered-append rs ss t u
+
+pub none-append : (rs ss : List Rule) → NoneHolds (rs ++ ss) → NoneHolds rs × NoneHolds ss
+none-append [] ss h = (tt, h)
+none-append ((n when b) ∷ rs) ss h =
+    let more = none-append rs ss (h .1) in
+    ((h .0, more .0), more .1)
+
+-- what a first stretch of rules refuses, the whole refuses
+pub first-hits : (rs ss : List Rule) → (first rs ≡ 0 → ⊥) → first (rs ++ ss) ≡ first rs
+unfolding pick
+first-hits [] ss h = absurd (h refl)
+first-hits ((n when true) ∷ rs) ss h = refl
+first-hits ((n when false) ∷ rs) ss h = first-hits rs ss h
+
 -- demand 1 of a list of rules, all of it
 pub refusal-law : (rs : List Rule) → T (numbered rs)
     → ((n : ℕ) → (first rs ≡ suc n → FirstIs rs (suc n)) × (FirstIs rs (suc n) → first rs ≡ suc n))

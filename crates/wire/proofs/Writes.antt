@@ -15,6 +15,11 @@ module _ (bs out : List ℕ) where
   pub writes-refused : (k n : ℕ) → suc k ≡ n → Writes n bs out (Refused (suc k)) out
   writes-refused k n e = subst (λ (m : ℕ). Writes m bs out (Refused (suc k)) out) e (record { answer = refl; output = refl })
 
+  -- as the code judges it: a number that is the first and not 0
+  pub writes-judged : (r n : ℕ) → r ≡ n → (r ≡ 0 → ⊥) → Writes n bs out (Refused r) out
+  writes-judged zero n e some = absurd (some refl)
+  writes-judged (suc k) n e some = writes-refused k n e
+
   -- none
   pub writes-all : (n l : ℕ) (out′ : List ℕ) → 0 ≡ n → l ≡ length bs → out′ ≡ over out bs → Writes n bs out (Length l) out′
   writes-all n l out′ e el eo =

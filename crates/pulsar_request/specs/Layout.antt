@@ -1,0 +1,140 @@
+-- The bodies of requests. 01: mask; 02: mask and values; 04: empty; 05: date; 06: mask, type (2 bytes), first and last date;
+-- 0A: index (2); 0B: index, 8 bytes. Many-byte fields are least significant first.
+-- Assumes nothing.
+use Prim.Native.Nat.{ℕ, _*_}
+use mathlib.Core.Bool.{Bool, true, false}
+use mathlib.Core.List.{List, [], _∷_, _++_}
+use lib.Dec.{eqb}
+use lib.ListN.{length, drop}
+use Rattle.wire.specs.Numbers.{le, ofLe, field}
+use Rattle.date.specs.Date.{dateBytes, dateOf}
+use Rattle.date.specs.declared.DateTime.{DateTime}
+use Rattle.reading.specs.Mask.{channelCount}
+use Rattle.pulsar_request.specs.declared.ArchiveKind.{ArchiveKind}
+use Rattle.pulsar_request.specs.declared.ArchiveKind.the-variants as A
+use Rattle.pulsar_request.specs.declared.ArchiveRequest.{ArchiveRequest}
+use Rattle.pulsar_request.specs.declared.Request.{Request}
+use Rattle.pulsar_request.specs.declared.Request.the-variants as Q
+use Rattle.pulsar_request.specs.declared.Function.{Function}
+use Rattle.pulsar_request.specs.declared.Function.the-variants as F
+
+-- ---- the functions
+
+abbrev pub pick : {A : Type 0} → Bool → A → A → A
+pick true a b = a
+pick false a b = b
+
+abbrev pub functionFrom : ℕ → Function
+functionFrom n =
+    pick (eqb n 0x01) F.ReadChannels
+    (pick (eqb n 0x02) F.WriteChannels
+    (pick (eqb n 0x04) F.ReadClock
+    (pick (eqb n 0x05) F.SetClock
+    (pick (eqb n 0x06) F.ReadArchive
+    (pick (eqb n 0x0A) F.ReadParameter
+    (pick (eqb n 0x0B) F.WriteParameter F.Unknown))))))
+
+abbrev pub functionOf : Request → Function
+functionOf (Q.ReadChannels mask) = F.ReadChannels
+functionOf (Q.WriteChannels mask) = F.WriteChannels
+functionOf Q.ReadClock = F.ReadClock
+functionOf (Q.SetClock d) = F.SetClock
+functionOf (Q.ReadArchive a) = F.ReadArchive
+functionOf (Q.ReadParameter index) = F.ReadParameter
+functionOf (Q.WriteParameter index) = F.WriteParameter
+
+abbrev pub functionNumber : Function → ℕ
+functionNumber F.ReadChannels = 0x01
+functionNumber F.WriteChannels = 0x02
+functionNumber F.ReadClock = 0x04
+functionNumber F.SetClock = 0x05
+functionNumber F.ReadArchive = 0x06
+functionNumber F.ReadParameter = 0x0A
+functionNumber F.WriteParameter = 0x0B
+functionNumber F.Unknown = 0
+
+-- 1 hourly, 2 daily, 3 monthly, 4 half-hourly
+abbrev pub typeNumber : ArchiveKind → ℕ
+typeNumber A.Hourly = 1
+typeNumber A.Daily = 2
+typeNumber A.Monthly = 3
+typeNumber A.HalfHourly = 4
+
+abbrev pub typeFrom : ℕ → ArchiveKind
+typeFrom n = pick (eqb n 1) A.Hourly (pick (eqb n 2) A.Daily (pick (eqb n 3) A.Monthly A.HalfHourly))
+
+-- ---- the bytes of a request: its head, and the value bytes
+
+abbrev pub archiveBytes : ArchiveRequest → List ℕ
+archiveBytes a = le 4 (a .mask) ++ (le 2 (typeNumber (a .kind)) ++ (dateBytes (a .first) ++ dateBytes (a .last)))
+
+abbrev pub headBytes : Request → List ℕ
+headBytes (Q.ReadChannels mask) = le 4 mask
+headBytes (Q.WriteChannels mask) = le 4 mask
+headBytes Q.ReadClock = []
+headBytes (Q.SetClock d) = dateBytes d
+headBytes (Q.ReadArchive a) = archiveBytes a
+headBytes (Q.ReadParameter index) = le 2 index
+headBytes (Q.WriteParameter index) = le 2 index
+
+abbrev pub requestBytes : Request → List ℕ → List ℕ
+requestBytes request values = headBytes request ++ values
+
+-- how many bytes the head has, and how many value bytes follow it
+abbrev pub headLength : Function → ℕ
+headLength F.ReadChannels = 4
+headLength F.WriteChannels = 4
+headLength F.ReadClock = 0
+headLength F.SetClock = 6
+headLength F.ReadArchive = 18
+headLength F.ReadParameter = 2
+headLength F.WriteParameter = 2
+headLength F.Unknown = 0
+
+abbrev pub valuesLength : Function → ℕ → ℕ → ℕ
+valuesLength F.ReadChannels width mask = 0
+valuesLength F.WriteChannels width mask = channelCount mask * width
+valuesLength F.ReadClock width mask = 0
+valuesLength F.SetClock width mask = 0
+valuesLength F.ReadArchive width mask = 0
+valuesLength F.ReadParameter width mask = 0
+valuesLength F.WriteParameter width mask = 8
+valuesLength F.Unknown width mask = 0
+
+-- ---- the fields of given bytes
+
+abbrev pub maskOf : List ℕ → ℕ
+maskOf s = ofLe (field s 0 4)
+
+abbrev pub dateIn : List ℕ → DateTime
+dateIn s = dateOf (field s 0 6)
+
+abbrev pub typeOf : List ℕ → ℕ
+typeOf s = ofLe (field s 4 2)
+
+abbrev pub firstOf : List ℕ → DateTime
+firstOf s = dateOf (field s 6 6)
+
+abbrev pub lastOf : List ℕ → DateTime
+lastOf s = dateOf (field s 12 6)
+
+abbrev pub indexOf : List ℕ → ℕ
+indexOf s = ofLe (field s 0 2)
+
+abbrev pub archiveOf : List ℕ → ArchiveRequest
+archiveOf s = record { mask = maskOf s; kind = typeFrom (typeOf s); first = firstOf s; last = lastOf s }
+
+-- the request that a body says (what is unknown has been refused before)
+abbrev pub requestOf : Function → List ℕ → Request
+requestOf F.ReadChannels s = Q.ReadChannels (maskOf s)
+requestOf F.WriteChannels s = Q.WriteChannels (maskOf s)
+requestOf F.ReadClock s = Q.ReadClock
+requestOf F.SetClock s = Q.SetClock (dateIn s)
+requestOf F.ReadArchive s = Q.ReadArchive (archiveOf s)
+requestOf F.ReadParameter s = Q.ReadParameter (indexOf s)
+requestOf F.WriteParameter s = Q.WriteParameter (indexOf s)
+requestOf F.Unknown s = Q.ReadClock
+
+-- the value bytes: what follows the head
+abbrev pub valuesOf : Request → List ℕ → List ℕ
+valuesOf request s = drop (headLength (functionOf request)) s
