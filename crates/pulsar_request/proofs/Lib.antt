@@ -1,3 +1,5 @@
 pub mod Cases
 pub mod Stores
 pub mod Unique
+pub mod RoundTrip
+pub mod Edges

@@ -6,7 +6,7 @@ use mathlib.Core.List.{List, [], _∷_, _++_}
 use Prim.Native.Nat.{ℕ, zero, suc}
 use native.Mathlib.Omega.{arith}
 use lib.Dec.{T}
-use Rattle.wire.specs.Refusal.{Rule, _when_, pick, first, NoneHolds, FirstIs, numbered}
+use Rattle.wire.specs.Refusal.{Rule, _when_, pick, first, NoneHolds, FirstIs, numbered, InOrder}
 
 pub first-skips : (rs ss : List Rule) → NoneHolds rs → first (rs ++ ss) ≡ first ss
 unfolding pick
@@ -56,11 +56,11 @@ first-hits [] ss h = absurd (h refl)
 first-hits ((n when true) ∷ rs) ss h = refl
 first-hits ((n when false) ∷ rs) ss h = first-hits rs ss h
 
--- demand 1 of a list of rules, all of it
-pub refusal-law : (rs : List Rule) → T (numbered rs)
-    → ((n : ℕ) → (first rs ≡ suc n → FirstIs rs (suc n)) × (FirstIs rs (suc n) → first rs ≡ suc n))
-    × (first rs ≡ 0 → NoneHolds rs)
-    × (NoneHolds rs → first rs ≡ 0)
+pub none-both : (rs ss : List Rule) → NoneHolds rs → NoneHolds ss → NoneHolds (rs ++ ss)
+none-both [] ss h k = k
+none-both ((n when b) ∷ rs) ss h k = (h .0, none-both rs ss (h .1) k)
+
+pub refusal-law : (rs : List Rule) → T (numbered rs) → InOrder rs
 refusal-law rs t = ((λ n. (is-first rs n, first-is rs (suc n))), none-first rs t, first-none rs)
 
 -- ---- for the code, which asks one condition after another: r is what a function answered that tests b. `search (hit, skip) depth 12`

@@ -34,3 +34,10 @@ abbrev pub numbered : List Rule → Bool
 numbered [] = true
 numbered ((zero when b) ∷ rs) = false
 numbered ((suc n when b) ∷ rs) = numbered rs
+
+-- demand 1 of a list of rules: the answer is n just where rule n holds and no earlier one does, and 0 just where none holds
+abbrev pub InOrder : List Rule → Type 0
+InOrder rs =
+    ((n : ℕ) → (first rs ≡ suc n → FirstIs rs (suc n)) × (FirstIs rs (suc n) → first rs ≡ suc n))
+    × (first rs ≡ 0 → NoneHolds rs)
+    × (NoneHolds rs → first rs ≡ 0)
