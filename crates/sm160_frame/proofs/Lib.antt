@@ -1,0 +1,4 @@
+pub mod Stores
+pub mod Bytes
+pub mod RoundTrip
+pub mod Unique

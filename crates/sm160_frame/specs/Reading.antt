@@ -1,0 +1,63 @@
+-- What reading a frame by its fields alone answers: the conditions of the refusal table, their order, and the answer.
+-- Assumes nothing.
+use Prim.Native.Nat.{ℕ, zero, suc, _+_}
+use mathlib.Core.Bool.{Bool, not, _||_}
+use mathlib.Core.List.{List, [], _∷_}
+use lib.Dec.{ltb, eqb}
+use lib.ListN.{length}
+use Rattle.wire.specs.Refusal.{Rule, _when_, first}
+use Rattle.wire.specs.Told.{Told, accepted, refused}
+use Rattle.sm160_frame.specs.Layout.{QA, START, END, has, sessionOf, offsetOf, sizeOf, crcOf, crcDue, flagsOf, partOf}
+use Rattle.sm160_frame.specs.declared.Fields.{Fields}
+use Rattle.sm160_frame.specs.declared.FrameRead.{FrameRead}
+use Rattle.sm160_frame.specs.declared.FrameRead.the-variants.{Frame, Refused}
+
+-- 21 fewer than 12 bytes
+abbrev pub tooShort : List ℕ → Bool
+tooShort s = ltb (length s) 12
+
+-- 22 part size differs from the bytes after the header
+abbrev pub wrongSize : List ℕ → Bool
+wrongSize s = not (eqb (sizeOf s) (length (partOf s)))
+
+-- 23 part empty or above 240
+abbrev pub badPart : List ℕ → Bool
+badPart part = eqb (length part) 0 || ltb 240 (length part)
+
+-- 24 CRC16 differs
+abbrev pub wrongCrc : List ℕ → Bool
+wrongCrc s = not (eqb (crcOf s) (crcDue s))
+
+-- 25 QA or an unknown flag set: the known ones are the lowest three bits
+abbrev pub badFlags : ℕ → Bool
+badFlags flags = has QA flags || ltb (QA + START + END) flags
+
+-- the order
+abbrev pub frameRules : List ℕ → List Rule
+frameRules s =
+    21 when tooShort s
+    ∷ 22 when wrongSize s
+    ∷ 23 when badPart (partOf s)
+    ∷ 24 when wrongCrc s
+    ∷ 25 when badFlags (flagsOf s)
+    ∷ []
+
+-- the number of the first that holds, 0 for none
+unfoldable pub frameFault : List ℕ → ℕ
+frameFault s = first (frameRules s)
+
+-- the fields that the bytes hold
+abbrev pub fieldsOf : List ℕ → Fields
+fieldsOf s = record { session = sessionOf s; offset = offsetOf s; flags = flagsOf s }
+
+-- the answer where the refusal is n: with 0, for none, the fields
+abbrev pub readAnswer : ℕ → List ℕ → FrameRead
+readAnswer zero s = Frame (fieldsOf s)
+readAnswer (suc n) s = Refused (suc n)
+
+unfoldable pub readFrame : List ℕ → FrameRead
+readFrame s = readAnswer (frameFault s) s
+
+abbrev pub toldFrameRead : FrameRead → Told
+toldFrameRead (Frame f) = accepted (f .session ∷ f .offset ∷ f .flags ∷ [])
+toldFrameRead (Refused n) = refused n
