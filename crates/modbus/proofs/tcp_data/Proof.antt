@@ -1,0 +1,20 @@
+-- `modbus::tcp_data` meets its contract.
+-- Assumes nothing.
+use borrow.Author.Needs.{needs}
+use Rattle.modbus.proofs.tcp_data.Statement.{statement}
+use Rattle.modbus.proofs.tcp_data.Tie as tie
+
+rest-requires : tie.Need-rest-requires
+rest-requires c κs = search needs
+
+less-requires : tie.Need-less-requires
+less-requires c κs = search needs
+
+front-requires : tie.Need-front-requires
+front-requires c κs = search needs
+
+returns : tie.Need-returns
+returns c = cc
+
+pub tcp-data-spec : {M : Type 1} → statement M
+tcp-data-spec = tie.close (tie.spec rest-requires less-requires front-requires returns)

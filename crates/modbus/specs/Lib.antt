@@ -1,0 +1,5 @@
+pub mod Envelope
+pub mod Rtu
+pub mod Tcp
+pub mod Order
+pub mod Printed
