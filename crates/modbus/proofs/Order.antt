@@ -2,17 +2,18 @@
 -- Assumes nothing.
 use mathlib.Core.List.{List}
 use Prim.Native.Nat.{ℕ}
+use Rattle.wire.specs.Refusal.{first}
 use Rattle.wire.proofs.Refusal.{refusal-law}
 use Rattle.modbus.specs.Envelope.{writeRules}
 use Rattle.modbus.specs.Rtu.{rtuRules}
 use Rattle.modbus.specs.Tcp.{tcpRules}
-use Rattle.modbus.specs.Order.{InOrder}
+use Rattle.modbus.specs.Order.{FirstInOrder}
 
-pub rtuRules-first : (s : List ℕ) → InOrder (rtuRules s)
-rtuRules-first s = refusal-law (rtuRules s) tt
+pub rtu-rules-first : (s : List ℕ) → FirstInOrder (rtuRules s) (first (rtuRules s))
+rtu-rules-first s = refusal-law (rtuRules s) tt
 
-pub tcpRules-first : (s : List ℕ) → InOrder (tcpRules s)
-tcpRules-first s = refusal-law (tcpRules s) tt
+pub tcp-rules-first : (s : List ℕ) → FirstInOrder (tcpRules s) (first (tcpRules s))
+tcp-rules-first s = refusal-law (tcpRules s) tt
 
-pub writeRules-first : (d bytes out : List ℕ) → InOrder (writeRules d bytes out)
-writeRules-first d bytes out = refusal-law (writeRules d bytes out) tt
+pub write-rules-first : (d bytes out : List ℕ) → FirstInOrder (writeRules d bytes out) (first (writeRules d bytes out))
+write-rules-first d bytes out = refusal-law (writeRules d bytes out) tt

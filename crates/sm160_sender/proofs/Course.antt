@@ -1,0 +1,196 @@
+-- A file sent from place 0 on, by the answered places, is brought by good frames; and every file of 1 to 4,294,967,295 bytes can be sent so.
+-- Assumes nothing.
+use mathlib.Core.Path.{_≡_, refl, sym, ap, ap₂, _∙_, subst}
+use mathlib.Core.Bool.{Bool, true, false}
+use mathlib.Core.List.{List, [], _∷_, _++_}
+use Prim.Native.Nat.{ℕ, zero, suc, _+_, _-_, _≤_, _<_}
+use native.Mathlib.Omega.{arith}
+use lib.Dec.{eqb}
+use lib.ListN.{length, take, drop}
+use lib.Seq.{drop-drop, drop-length, take-append-seam}
+use borrow.Author.Tests.{eq-eqb, ne-eqb, eqb-true, eqb-false, le-ltb, lt-leb}
+use Rattle.wire.specs.Each.{Each, Bytes}
+use Rattle.wire.specs.Numbers.{over}
+use Rattle.wire.specs.Refusal.{first, NoneHolds}
+use Rattle.wire.specs.Writes.{writeOutput}
+use Rattle.wire.proofs.Refusal.{first-none, none-first}
+use Rattle.sm160_frame.specs.Layout.{START, END, has, partOf, isStart, isEnd}
+use Rattle.sm160_frame.proofs.Bytes.{made-session, made-offset, made-flags, made-part, made-good}
+use Rattle.sm160_sender.specs.Sending.{partAt, nextPlace, remainsAt, flagsFor, flagsAt, sentBytes, badFile, badLargest, pastEnd, noRoom, sendRules, sendAnswer, Sends}
+use Rattle.sm160_sender.specs.Course.{Call, Course, frames, Brings, none, InTurn, joined, Brought}
+use Rattle.sm160_sender.specs.declared.Sent.the-variants.{Frame}
+use Rattle.sm160_sender.proofs.Parts.{Sendable, sendable, length-part, good-part, good-flags}
+
+-- ---- parts of a list (for `wire`)
+each-drop : (P : ℕ → Type 0) (n : ℕ) (xs : List ℕ) → Each P xs → Each P (drop n xs)
+each-drop P zero xs h = h
+each-drop P (suc n) [] h = tt
+each-drop P (suc n) (x ∷ xs) h = each-drop P n xs (h .1)
+
+each-take : (P : ℕ → Type 0) (n : ℕ) (xs : List ℕ) → Each P xs → Each P (take n xs)
+each-take P zero xs h = tt
+each-take P (suc n) [] h = tt
+each-take P (suc n) (x ∷ xs) h = (h .0, each-take P n xs (h .1))
+
+take-then-drop : (n : ℕ) (xs : List ℕ) → take n xs ++ drop (length (take n xs)) xs ≡ xs
+take-then-drop zero xs = refl
+take-then-drop (suc n) [] = refl
+take-then-drop (suc n) (x ∷ xs) = ap (λ (l : List ℕ). x ∷ l) (take-then-drop n xs)
+
+-- ---- one call
+has-start : (start end : Bool) → has START (flagsFor start end) ≡ start
+has-start true true = refl
+has-start true false = refl
+has-start false true = refl
+has-start false false = refl
+
+has-end : (start end : Bool) → has END (flagsFor start end) ≡ end
+has-end true true = refl
+has-end true false = refl
+has-end false true = refl
+has-end false false = refl
+
+few-flags : (start end : Bool) → flagsFor start end ≤ 6
+few-flags true true = omega arith
+few-flags true false = omega arith
+few-flags false true = omega arith
+few-flags false false = omega arith
+
+accepted : (n : ℕ) (bs : List ℕ) (m l next : ℕ) → Frame l next ≡ sendAnswer n bs m → (n ≡ 0) × (l ≡ length bs) × (next ≡ m)
+accepted zero bs m l next e = (refl, (cc), (cc))
+accepted (suc n) bs m l next e =
+    let z : _≡_ {A = ℕ} 0 1 = cc in
+    absurd (omega arith)
+
+module _ (file : List ℕ) (session largest : ℕ) where
+  -- what a call that wrote a frame has done
+  record Wrote (place l next : ℕ) (out′ : List ℕ) : Type 0 where
+    able : Sendable file largest place
+    frame : take l out′ ≡ sentBytes file session largest place
+    goes : next ≡ nextPlace file largest place
+
+  wrote : (place : ℕ) (out : List ℕ) (l next : ℕ) (out′ : List ℕ) → Sends file session largest place out (Frame l next) out′ → Wrote place l next out′
+  unfolding over
+  wrote place out l next out′ w =
+      let rules = sendRules file largest place (length out) in
+      let bs = sentBytes file session largest place in
+      let ok = accepted (first rules) bs (nextPlace file largest place) l next (w .answer) in
+      let h = none-first rules tt (ok .0) in
+      record {
+        able = sendable file largest place (h .0) (h .1 .0) (h .1 .1 .0);
+        frame =
+            ap₂ (λ (n : ℕ) (o : List ℕ). take n o) (ok .1) (w .output ∙ ap (λ (n : ℕ). writeOutput n bs out) (ok .0))
+            ∙ take-append-seam bs (drop (length bs) out);
+        goes = ok .2;
+      }
+
+  module _ (bytes : Bytes file) (fits : session < 65536) (place : ℕ) (g : Sendable file largest place) where
+    abbrev Part : List ℕ
+    Part = partAt file largest place
+
+    abbrev Last : Bool
+    Last = eqb (remainsAt file largest place) 0
+
+    sent-part : partOf (sentBytes file session largest place) ≡ Part
+    unfolding sentBytes
+    sent-part = made-part session place (flagsAt file largest place) Part
+
+    sent-brings : Brings session place (eqb place 0) Last (sentBytes file session largest place)
+    unfolding sentBytes isStart isEnd
+    sent-brings =
+        let flags = flagsAt file largest place in
+        let few = few-flags (eqb place 0) Last in
+        let part-bytes = each-take (λ b. b < 256) largest (drop place file) (each-drop (λ b. b < 256) place file bytes) in
+        let ef = made-flags session place flags Part (omega arith) in
+        record {
+          good = made-good session place flags Part part-bytes (good-part file largest place g) (good-flags (eqb place 0) Last);
+          ours = made-session session place flags Part fits;
+          placed = made-offset session place flags Part (omega (arith, g .small, g .inside));
+          starts = ap (has START) ef ∙ has-start (eqb place 0) Last;
+          ends = ap (has END) ef ∙ has-end (eqb place 0) Last;
+        }
+
+  -- ---- calls in turn
+
+  -- nothing remains just where no call follows
+  ends-last : (place : ℕ) (cs : List Call) → Course file session largest place cs → eqb (length file - place) 0 ≡ none (frames cs)
+  unfolding Course frames
+  ends-last place [] h = eq-eqb (length file - place) 0 (omega arith)
+  ends-last place (c ∷ cs) h =
+      let w = wrote place (c .lent) (c .size) (c .next) (c .left) (h .0) in
+      ne-eqb (length file - place) 0 (λ e. omega (arith, w .able .inside, e))
+
+  module _ (bytes : Bytes file) (fits : session < 65536) where
+    from-place : (place : ℕ) (cs : List Call) → Course file session largest place cs
+        → (joined (frames cs) ≡ drop place file) × InTurn session place (eqb place 0) (frames cs)
+    unfolding Course frames joined InTurn
+    from-place place [] h = (sym (ap (λ (k : ℕ). drop k file) h ∙ drop-length file), tt)
+    from-place place (c ∷ cs) h =
+        let w = wrote place (c .lent) (c .size) (c .next) (c .left) (h .0) in
+        let rest = from-place (c .next) cs (h .1) in
+        let n = length-part file largest place (w .able) in
+        let part : partOf (take (c .size) (c .left)) ≡ partAt file largest place = ap partOf (w .frame) ∙ sent-part bytes fits place (w .able) in
+        let later : eqb (c .next) 0 ≡ false = ne-eqb (c .next) 0 (λ e. omega (arith, w .goes, n .0, e)) in
+        let last : eqb (remainsAt file largest place) 0 ≡ none (frames cs) =
+        ap (λ (k : ℕ). eqb (length file - k) 0) (sym (w .goes)) ∙ ends-last (c .next) cs (h .1) in
+        let here : Brings session place (eqb place 0) (none (frames cs)) (take (c .size) (c .left)) =
+        subst (λ (f : List ℕ). Brings session place (eqb place 0) (none (frames cs)) f) (sym (w .frame))
+        (subst (λ (b : Bool). Brings session place (eqb place 0) b (sentBytes file session largest place)) last (sent-brings bytes fits place (w .able))) in
+        let next : c .next ≡ place + length (partOf (take (c .size) (c .left))) = w .goes ∙ ap (λ (p : List ℕ). place + length p) (sym part) in (
+          ap₂ (λ (x y : List ℕ). x ++ y) part
+              (rest .0 ∙ ap (λ (k : ℕ). drop k file) (w .goes) ∙ sym (drop-drop (length (partAt file largest place)) place file))
+              ∙ take-then-drop largest (drop place file),
+          (here, subst (λ (k : ℕ). InTurn session k false (frames cs)) next (subst (λ (b : Bool). InTurn session (c .next) b (frames cs)) later (rest .1))),
+        )
+
+    -- Sent from place 0 on, by the answered places, the file is brought by the frames: they are good, their parts joined are the file, each
+    -- is for its place, START is on the first only and END on the last only.
+    pub sent : (cs : List Call) → Course file session largest 0 cs → Brought session file (frames cs)
+    sent cs h =
+        let all = from-place 0 cs h in
+        record { whole = all .0; turns = all .1 }
+
+  -- ---- every file can be sent so, with one output of 252 bytes or more lent to every call
+  module _ (out : List ℕ) (good-file : badFile file ≡ false) (good-largest : badLargest largest ≡ false) (room : 252 ≤ length out) where
+    call : (place : ℕ) → place < length file
+        → Sends file session largest place out (Frame (length (sentBytes file session largest place)) (nextPlace file largest place)) (over out (sentBytes file session largest place))
+    call place inside =
+        let bs = sentBytes file session largest place in
+        let within : pastEnd file place ≡ false = lt-leb (length file) place inside in
+        let g = sendable file largest place good-file good-largest within in
+        let n = length-part file largest place g in
+        let enough : noRoom file largest place (length out) ≡ false =
+        le-ltb (length out) (length (partAt file largest place) + 12) (omega (arith, n .1, g .most)) in
+        let none-holds : NoneHolds (sendRules file largest place (length out)) = (good-file, (good-largest, (within, (enough, tt)))) in
+        let z = first-none (sendRules file largest place (length out)) none-holds in
+        record {
+          answer = sym (ap (λ (k : ℕ). sendAnswer k bs (nextPlace file largest place)) z);
+          output = sym (ap (λ (k : ℕ). writeOutput k bs out) z);
+        }
+
+    -- at the end no call, before it one and those that go on from its answer
+    calls-at : (place : ℕ) → place ≤ length file
+        → (place < length file → (cs : List Call) × Course file session largest (nextPlace file largest place) cs)
+        → (b : Bool) → eqb place (length file) ≡ b → (cs : List Call) × Course file session largest place cs
+    unfolding Course
+    calls-at place h more true e = ([], eqb-true place (length file) e)
+    calls-at place h more false e =
+        let apart = eqb-false place (length file) e in
+        let inside : place < length file = omega (arith, apart) in
+        let bs = sentBytes file session largest place in
+        let rest = more inside in
+        (record { lent = out; left = over out bs; size = length bs; next = nextPlace file largest place } ∷ rest .0, (call place inside, rest .1))
+
+    calls-from : (n place : ℕ) → place ≤ length file → length file - place ≤ n → (cs : List Call) × Course file session largest place cs
+    unfolding Course
+    calls-from zero place h few = ([], omega arith)
+    calls-from (suc n) place h few =
+        calls-at place h
+        (λ inside.
+        let g = sendable file largest place good-file good-largest (lt-leb (length file) place inside) in
+        let k = length-part file largest place g in
+        calls-from n (nextPlace file largest place) (k .2) (omega (arith, k .0)))
+        (eqb place (length file)) refl
+
+    pub sends-whole : (cs : List Call) × Course file session largest 0 cs
+    sends-whole = calls-from (length file) 0 (omega arith) (omega arith)

@@ -1,0 +1,54 @@
+-- The part at a place: its length, and the file from the place on as the part and the file from the next place on; the flags that a frame has.
+-- Assumes nothing.
+use mathlib.Core.Path.{_≡_, refl, ap, _∙_}
+use mathlib.Core.Bool.{Bool, true, false}
+use mathlib.Core.List.{List}
+use Prim.Native.Nat.{ℕ, _-_, _≤_, _<_, min}
+use native.Mathlib.Nat.{min-le-left, min-le-right, le-min}
+use native.Mathlib.Omega.{arith}
+use lib.Dec.{ltb, eqb}
+use lib.ListN.{length, drop, length-take, length-drop}
+use borrow.Author.Tests.{ltb-false, leb-false, eqb-false, ne-eqb, le-ltb}
+use Rattle.wire.proofs.Bools.{or-false, false-or}
+use Rattle.sm160_frame.specs.Reading.{badPart, badFlags}
+use Rattle.sm160_sender.specs.Sending.{partAt, nextPlace, flagsFor, badFile, badLargest, pastEnd}
+
+-- what the sender has found where it does not refuse by 32, 33 or 34
+pub record Sendable (file : List ℕ) (largest place : ℕ) : Type 0 where
+  pub small : length file ≤ 4294967295
+  pub least : 1 ≤ largest
+  pub most : largest ≤ 240
+  pub inside : place < length file
+
+module _ (file : List ℕ) (largest place : ℕ) where
+  pub sendable : badFile file ≡ false → badLargest largest ≡ false → pastEnd file place ≡ false → Sendable file largest place
+  sendable a b c =
+      let l = or-false (eqb largest 0) (ltb 240 largest) b in
+      let some = eqb-false largest 0 (l .0) in
+      record {
+        small = ltb-false 4294967295 (length file) (or-false (eqb (length file) 0) (ltb 4294967295 (length file)) a .1);
+        least = omega (arith, some);
+        most = ltb-false 240 largest (l .1);
+        inside = leb-false (length file) place c;
+      }
+
+  pub length-part : Sendable file largest place
+      → (1 ≤ length (partAt file largest place)) × (length (partAt file largest place) ≤ largest) × (nextPlace file largest place ≤ length file)
+  length-part g =
+      let n : length (partAt file largest place) ≡ min largest (length file - place) = length-take largest (drop place file) ∙ ap (min largest) (length-drop place file) in
+      let one : 1 ≤ min largest (length file - place) = le-min (g .least) (omega (arith, g .inside)) in
+      let left = min-le-left largest (length file - place) in
+      let right = min-le-right largest (length file - place) in
+      (omega arith, omega arith, omega (arith, g .inside))
+
+  pub good-part : Sendable file largest place → badPart (partAt file largest place) ≡ false
+  good-part g =
+      let n = length-part g in
+      let p = partAt file largest place in
+      false-or (eqb (length p) 0) (ltb 240 (length p)) (ne-eqb (length p) 0 (λ z. omega (arith, n .0, z))) (le-ltb 240 (length p) (omega (arith, n .1, g .most)))
+
+pub good-flags : (start end : Bool) → badFlags (flagsFor start end) ≡ false
+good-flags true true = refl
+good-flags true false = refl
+good-flags false true = refl
+good-flags false false = refl

@@ -1,0 +1,60 @@
+-- A file sent whole, and what it is for frames to bring a file.
+-- Assumes nothing.
+use Prim.Native.Nat.{ℕ, _+_}
+use mathlib.Core.Path.{_≡_}
+use mathlib.Core.Bool.{Bool, true, false}
+use mathlib.Core.List.{List, [], _∷_, _++_}
+use lib.ListN.{length, take}
+use Rattle.sm160_frame.specs.Layout.{sessionOf, offsetOf, partOf, isStart, isEnd}
+use Rattle.sm160_frame.specs.Reading.{frameFault}
+use Rattle.sm160_sender.specs.Sending.{Sends}
+use Rattle.sm160_sender.specs.declared.Sent.the-variants.{Frame}
+
+-- ---- calls of the sender
+
+-- a call that wrote a frame: the output lent to it and as it was left, the answered length and the next place
+pub record Call : Type 0 where
+  pub lent : List ℕ
+  pub left : List ℕ
+  pub size : ℕ
+  pub next : ℕ
+
+-- calls in turn: the first at a place, each other at the place that the one before it answered, until the file's end is answered
+unfoldable pub Course : List ℕ → ℕ → ℕ → ℕ → List Call → Type 0
+Course file session largest place [] = place ≡ length file
+Course file session largest place (c ∷ cs) =
+    Sends file session largest place (c .lent) (Frame (c .size) (c .next)) (c .left) × Course file session largest (c .next) cs
+
+-- the frames that they wrote
+unfoldable pub frames : List Call → List (List ℕ)
+frames [] = []
+frames (c ∷ cs) = take (c .size) (c .left) ∷ frames cs
+
+-- ---- frames that bring a file (this speaks of frames alone, so its place is in `sm160_frame`)
+
+-- f is good by 01, of the session, for the place, and has START and END as said
+pub record Brings (session place : ℕ) (start last : Bool) (f : List ℕ) : Type 0 where
+  pub good : frameFault f ≡ 0
+  pub ours : sessionOf f ≡ session
+  pub placed : offsetOf f ≡ place
+  pub starts : isStart f ≡ start
+  pub ends : isEnd f ≡ last
+
+abbrev pub none : List (List ℕ) → Bool
+none [] = true
+none (f ∷ fs) = false
+
+-- frames in order, each for the place where the one before it ended; START, where `start`, on the first only, END on the last only
+unfoldable pub InTurn : ℕ → ℕ → Bool → List (List ℕ) → Type 0
+InTurn session place start [] = Unit {0}
+InTurn session place start (f ∷ fs) = Brings session place start (none fs) f × InTurn session (place + length (partOf f)) false fs
+
+-- their parts, joined
+unfoldable pub joined : List (List ℕ) → List ℕ
+joined [] = []
+joined (f ∷ fs) = partOf f ++ joined fs
+
+-- good frames of a session that bring the file from its start to its end
+pub record Brought (session : ℕ) (file : List ℕ) (fs : List (List ℕ)) : Type 0 where
+  pub whole : joined fs ≡ file
+  pub turns : InTurn session 0 true fs
