@@ -1,4 +1,4 @@
--- A file sent from place 0 on, by the answered places, is brought by good frames; and every file of 1 to 4,294,967,295 bytes can be sent so.
+-- A file sent from place 0 on, by the answered places, is carried by good frames; and every file of 1 to 4,294,967,295 bytes can be sent so.
 -- Assumes nothing.
 use mathlib.Core.Path.{_≡_, refl, sym, ap, ap₂, _∙_, subst}
 use mathlib.Core.Bool.{Bool, true, false}
@@ -17,7 +17,7 @@ use Rattle.wire.proofs.Refusal.{first-none, none-first}
 use Rattle.sm160_frame.specs.Layout.{START, END, has, partOf, isStart, isEnd}
 use Rattle.sm160_frame.proofs.Bytes.{made-session, made-offset, made-flags, made-part, made-good}
 use Rattle.sm160_sender.specs.Sending.{partAt, nextPlace, remainsAt, flagsFor, flagsAt, sentBytes, badFile, badLargest, pastEnd, noRoom, sendRules, sendAnswer, Sends}
-use Rattle.sm160_sender.specs.Course.{Call, Course, frames, Brings, none, InTurn, joined, Brought}
+use Rattle.sm160_sender.specs.Course.{Call, Course, frames, Carries, none, InTurn, joined, Carried}
 use Rattle.sm160_sender.specs.declared.Sent.the-variants.{Frame}
 use Rattle.sm160_sender.proofs.Parts.{Sendable, sendable, length-part, good-part, good-flags}
 
@@ -95,9 +95,9 @@ module _ (file : List ℕ) (session largest : ℕ) where
     unfolding sentBytes
     sent-part = made-part session place (flagsAt file largest place) Part
 
-    sent-brings : Brings session place (eqb place 0) Last (sentBytes file session largest place)
+    sent-carries : Carries session place (eqb place 0) Last (sentBytes file session largest place)
     unfolding sentBytes isStart isEnd
-    sent-brings =
+    sent-carries =
         let flags = flagsAt file largest place in
         let few = few-flags (eqb place 0) Last in
         let part-bytes = each-take (λ b. b < 256) largest (drop place file) (each-drop (λ b. b < 256) place file bytes) in
@@ -133,9 +133,9 @@ module _ (file : List ℕ) (session largest : ℕ) where
         let later : eqb (c .next) 0 ≡ false = ne-eqb (c .next) 0 (λ e. omega (arith, w .goes, n .0, e)) in
         let last : eqb (remainsAt file largest place) 0 ≡ none (frames cs) =
         ap (λ (k : ℕ). eqb (length file - k) 0) (sym (w .goes)) ∙ ends-last (c .next) cs (h .1) in
-        let here : Brings session place (eqb place 0) (none (frames cs)) (take (c .size) (c .left)) =
-        subst (λ (f : List ℕ). Brings session place (eqb place 0) (none (frames cs)) f) (sym (w .frame))
-        (subst (λ (b : Bool). Brings session place (eqb place 0) b (sentBytes file session largest place)) last (sent-brings bytes fits place (w .able))) in
+        let here : Carries session place (eqb place 0) (none (frames cs)) (take (c .size) (c .left)) =
+        subst (λ (f : List ℕ). Carries session place (eqb place 0) (none (frames cs)) f) (sym (w .frame))
+        (subst (λ (b : Bool). Carries session place (eqb place 0) b (sentBytes file session largest place)) last (sent-carries bytes fits place (w .able))) in
         let next : c .next ≡ place + length (partOf (take (c .size) (c .left))) = w .goes ∙ ap (λ (p : List ℕ). place + length p) (sym part) in (
           ap₂ (λ (x y : List ℕ). x ++ y) part
               (rest .0 ∙ ap (λ (k : ℕ). drop k file) (w .goes) ∙ sym (drop-drop (length (partAt file largest place)) place file))
@@ -143,9 +143,9 @@ module _ (file : List ℕ) (session largest : ℕ) where
           (here, subst (λ (k : ℕ). InTurn session k false (frames cs)) next (subst (λ (b : Bool). InTurn session (c .next) b (frames cs)) later (rest .1))),
         )
 
-    -- Sent from place 0 on, by the answered places, the file is brought by the frames: they are good, their parts joined are the file, each
+    -- Sent from place 0 on, by the answered places, the file is carried by the frames: they are good, their parts joined are the file, each
     -- is for its place, START is on the first only and END on the last only.
-    pub sent : (cs : List Call) → Course file session largest 0 cs → Brought session file (frames cs)
+    pub sent : (cs : List Call) → Course file session largest 0 cs → Carried session file (frames cs)
     sent cs h =
         let all = from-place 0 cs h in
         record { whole = all .0; turns = all .1 }

@@ -1,4 +1,4 @@
--- A file sent whole, and what it is for frames to bring a file.
+-- A file sent whole, and what it is for frames to carry a file.
 -- Assumes nothing.
 use Prim.Native.Nat.{ℕ, _+_}
 use mathlib.Core.Path.{_≡_}
@@ -30,15 +30,15 @@ unfoldable pub frames : List Call → List (List ℕ)
 frames [] = []
 frames (c ∷ cs) = take (c .size) (c .left) ∷ frames cs
 
--- ---- frames that bring a file (this speaks of frames alone, so its place is in `sm160_frame`)
+-- ---- frames that carry a file (this speaks of frames alone, so its place is in `sm160_frame`)
 
 -- f is good by 01, of the session, for the place, and has START and END as said
-pub record Brings (session place : ℕ) (start last : Bool) (f : List ℕ) : Type 0 where
+pub record Carries (session place : ℕ) (start end : Bool) (f : List ℕ) : Type 0 where
   pub good : frameFault f ≡ 0
   pub ours : sessionOf f ≡ session
   pub placed : offsetOf f ≡ place
   pub starts : isStart f ≡ start
-  pub ends : isEnd f ≡ last
+  pub ends : isEnd f ≡ end
 
 abbrev pub none : List (List ℕ) → Bool
 none [] = true
@@ -47,14 +47,14 @@ none (f ∷ fs) = false
 -- frames in order, each for the place where the one before it ended; START, where `start`, on the first only, END on the last only
 unfoldable pub InTurn : ℕ → ℕ → Bool → List (List ℕ) → Type 0
 InTurn session place start [] = Unit {0}
-InTurn session place start (f ∷ fs) = Brings session place start (none fs) f × InTurn session (place + length (partOf f)) false fs
+InTurn session place start (f ∷ fs) = Carries session place start (none fs) f × InTurn session (place + length (partOf f)) false fs
 
 -- their parts, joined
 unfoldable pub joined : List (List ℕ) → List ℕ
 joined [] = []
 joined (f ∷ fs) = partOf f ++ joined fs
 
--- good frames of a session that bring the file from its start to its end
-pub record Brought (session : ℕ) (file : List ℕ) (fs : List (List ℕ)) : Type 0 where
+-- the frames carry the file from its start to its end
+pub record Carried (session : ℕ) (file : List ℕ) (fs : List (List ℕ)) : Type 0 where
   pub whole : joined fs ≡ file
   pub turns : InTurn session 0 true fs
