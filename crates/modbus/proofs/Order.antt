@@ -2,12 +2,11 @@
 -- Assumes nothing.
 use mathlib.Core.List.{List}
 use Prim.Native.Nat.{ℕ}
-use Rattle.wire.specs.Refusal.{first}
+use Rattle.wire.specs.Refusal.{first, FirstInOrder}
 use Rattle.wire.proofs.Refusal.{refusal-law}
 use Rattle.modbus.specs.Envelope.{writeRules}
 use Rattle.modbus.specs.Rtu.{rtuRules}
 use Rattle.modbus.specs.Tcp.{tcpRules}
-use Rattle.modbus.specs.Order.{FirstInOrder}
 
 pub rtu-rules-first : (s : List ℕ) → FirstInOrder (rtuRules s) (first (rtuRules s))
 rtu-rules-first s = refusal-law (rtuRules s) tt

@@ -19,7 +19,7 @@ use Rattle.wire.specs.Refusal.{first, NoneHolds}
 use Rattle.wire.specs.declared.Written.{Written}
 use Rattle.wire.specs.declared.Written.the-variants.{Length}
 use Rattle.wire.proofs.Fields.{field-at, field-take, field-append, field-bytes, length-field}
-use Rattle.wire.proofs.Numbers.{length-le, ofLe-le, le-ofLe, ofBe-be, be-ofBe}
+use Rattle.wire.proofs.Numbers.{length-be, length-le, ofLe-le, le-ofLe, ofBe-be, be-ofBe}
 use Rattle.wire.proofs.Refusal.{first-none, none-first}
 use Rattle.modbus.specs.Envelope.{message, enveloped, addressOf, functionOf, WritesEnvelope}
 use Rattle.modbus.specs.Rtu.{rtuBytes, crcOf, coveredOf, rtuData, badCrc, rtuRules, rtuOf, rtuAnswer, readRtu}
@@ -29,7 +29,7 @@ use Rattle.modbus.specs.declared.RtuRead.the-variants.{Rtu as FoundRtu}
 use Rattle.modbus.specs.declared.Tcp.{Tcp}
 use Rattle.modbus.specs.declared.TcpRead.the-variants.{Tcp as FoundTcp}
 use Rattle.modbus.proofs.Fields as fields
-use Rattle.modbus.proofs.Stores.{length-be, length-head}
+use Rattle.modbus.proofs.Stores.{length-head}
 
 -- ---- RTU, written
 module _ (a f : ℕ) (d : List ℕ) where

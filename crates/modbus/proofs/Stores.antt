@@ -9,15 +9,11 @@ use lib.ListN.{length, set, take, length-append, length-reverse}
 use lib.Seq.{sets}
 use Rattle.checksum.specs.Crc.{crc}
 use Rattle.wire.specs.Numbers.{be, le, digits}
-use Rattle.wire.proofs.Numbers.{length-le, length-digits}
+use Rattle.wire.proofs.Numbers.{length-be, length-le}
 use Rattle.wire.proofs.Writing.{sets-then, take-sets}
 use Rattle.modbus.specs.Envelope.{message}
 use Rattle.modbus.specs.Rtu.{rtuBytes}
 use Rattle.modbus.specs.Tcp.{tcpHead, tcpBytes}
-
-pub length-be : (w v : ℕ) → length (be w v) ≡ w
-unfolding be
-length-be w v = length-reverse (digits 256 w v) ∙ length-digits 256 w v
 
 pub stored-message : (a f : ℕ) (d out : List ℕ) (at : ℕ) → sets (set (set out at a) (at + 1) f) (at + 2) d ≡ sets out at (message a f d)
 stored-message a f d out at =

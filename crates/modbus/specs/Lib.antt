@@ -1,5 +1,4 @@
 pub mod Envelope
 pub mod Rtu
 pub mod Tcp
-pub mod Order
 pub mod Printed

@@ -13,7 +13,7 @@ use lib.Seq.{drop-at}
 use borrow.Author.Tests.{eqb-true, eqb-false, eq-eqb, ne-eqb, ltb-false, le-ltb, not-false}
 use Rattle.wire.specs.Each.{Bytes}
 use Rattle.wire.specs.Numbers.{le, ofLe, field}
-use Rattle.wire.specs.Refusal.{Rule, _when_, first, NoneHolds, numbered, InOrder}
+use Rattle.wire.specs.Refusal.{Rule, _when_, first, NoneHolds, numbered, FirstInOrder}
 use Rattle.wire.proofs.Bools.{or-false, false-or}
 use Rattle.wire.proofs.Fields.{field-at, field-take, field-append, length-field, field-bytes}
 use Rattle.wire.proofs.Numbers.{length-le, ofLe-le, le-ofLe}
@@ -278,8 +278,8 @@ request-writes-again number width s q bytes e =
 
 -- ---- the order of refusals
 
-pub reading-in-order : (f : Function) (width : ℕ) (s : List ℕ) → InOrder (requestRules f width s)
-reading-in-order f width s = refusal-law (requestRules f width s) (numbered-reading f s)
+pub request-rules-first : (f : Function) (width : ℕ) (s : List ℕ) → FirstInOrder (requestRules f width s) (first (requestRules f width s))
+request-rules-first f width s = refusal-law (requestRules f width s) (numbered-reading f s)
 
-pub writing-in-order : (q : Request) (width : ℕ) (vs : List ℕ) (room : ℕ) → InOrder (writingRules q width vs room)
-writing-in-order q width vs room = refusal-law (writingRules q width vs room) (numbered-writing q (length (requestBytes q vs)) room)
+pub writing-rules-first : (q : Request) (width : ℕ) (vs : List ℕ) (room : ℕ) → FirstInOrder (writingRules q width vs room) (first (writingRules q width vs room))
+writing-rules-first q width vs room = refusal-law (writingRules q width vs room) (numbered-writing q (length (requestBytes q vs)) room)

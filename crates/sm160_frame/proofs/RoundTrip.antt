@@ -10,7 +10,7 @@ use lib.Seq.{take-append-seam}
 use borrow.Author.Tests.{le-ltb}
 use Rattle.wire.specs.Each.{Bytes}
 use Rattle.wire.specs.Numbers.{over}
-use Rattle.wire.specs.Refusal.{first}
+use Rattle.wire.specs.Refusal.{first, FirstInOrder}
 use Rattle.wire.specs.Writes.{Writes}
 use Rattle.wire.specs.declared.Written.{Written}
 use Rattle.wire.specs.declared.Written.the-variants.{Length}
@@ -19,7 +19,6 @@ use Rattle.wire.proofs.Writes.{wrote}
 use Rattle.sm160_frame.specs.Layout.{frameBytes, partOf}
 use Rattle.sm160_frame.specs.Reading.{badFlags, frameRules, frameFault, fieldsOf, readAnswer, readFrame}
 use Rattle.sm160_frame.specs.Writing.{writeRules}
-use Rattle.sm160_frame.specs.Order.{FirstInOrder}
 use Rattle.sm160_frame.specs.declared.Fields.{Fields}
 use Rattle.sm160_frame.specs.declared.FrameRead.the-variants.{Frame}
 use Rattle.sm160_frame.proofs.Stores.{length-frame}

@@ -13,6 +13,7 @@ use Rattle.wire.specs.Each.{Each, Bytes}
 use Rattle.wire.specs.Numbers.{over}
 use Rattle.wire.specs.Refusal.{first, NoneHolds}
 use Rattle.wire.specs.Writes.{writeOutput}
+use Rattle.wire.proofs.Each.{each-drop, each-take}
 use Rattle.wire.proofs.Refusal.{first-none, none-first}
 use Rattle.sm160_frame.specs.Layout.{START, END, has, partOf, isStart, isEnd}
 use Rattle.sm160_frame.proofs.Bytes.{made-session, made-offset, made-flags, made-part, made-good}
@@ -20,17 +21,6 @@ use Rattle.sm160_sender.specs.Sending.{partAt, nextPlace, remainsAt, fla
 use Rattle.sm160_sender.specs.Course.{Call, Course, frames, Carries, none, InTurn, joined, Carried}
 use Rattle.sm160_sender.specs.declared.Sent.the-variants.{Frame}
 use Rattle.sm160_sender.proofs.Parts.{Sendable, sendable, length-part, good-part, good-flags}
-
--- ---- parts of a list (for `wire`)
-each-drop : (P : ℕ → Type 0) (n : ℕ) (xs : List ℕ) → Each P xs → Each P (drop n xs)
-each-drop P zero xs h = h
-each-drop P (suc n) [] h = tt
-each-drop P (suc n) (x ∷ xs) h = each-drop P n xs (h .1)
-
-each-take : (P : ℕ → Type 0) (n : ℕ) (xs : List ℕ) → Each P xs → Each P (take n xs)
-each-take P zero xs h = tt
-each-take P (suc n) [] h = tt
-each-take P (suc n) (x ∷ xs) h = (h .0, each-take P n xs (h .1))
 
 take-then-drop : (n : ℕ) (xs : List ℕ) → take n xs ++ drop (length (take n xs)) xs ≡ xs
 take-then-drop zero xs = refl

@@ -2,7 +2,7 @@
 -- Assumes nothing.
 use mathlib.Core.List.{List, [], _∷_, _++_, reverse, reverseAux}
 use Prim.Native.Nat.{ℕ, zero, suc, _<_}
-use lib.ListN.{getD}
+use lib.ListN.{getD, take, drop}
 use Rattle.wire.specs.Each.{Each}
 
 module _ (P : ℕ → Type 0) where
@@ -25,3 +25,13 @@ module _ (P : ℕ → Type 0) where
 
   pub each-reverse : (xs : List ℕ) → Each P xs → Each P (reverse xs)
   each-reverse xs h = each-reverseAux xs [] h tt
+
+  pub each-drop : (n : ℕ) (xs : List ℕ) → Each P xs → Each P (drop n xs)
+  each-drop zero xs h = h
+  each-drop (suc n) [] h = tt
+  each-drop (suc n) (x ∷ xs) h = each-drop n xs (h .1)
+
+  pub each-take : (n : ℕ) (xs : List ℕ) → Each P xs → Each P (take n xs)
+  each-take zero xs h = tt
+  each-take (suc n) [] h = tt
+  each-take (suc n) (x ∷ xs) h = (h .0, each-take n xs (h .1))

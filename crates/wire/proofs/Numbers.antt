@@ -65,6 +65,10 @@ pub le-ofLe : (bs : List ℕ) → Bytes bs → le (length bs) (ofLe bs) ≡ bs
 unfolding le ofLe
 le-ofLe bs h = digits-number 256 (lit< tt) bs h
 
+pub length-be : (w v : ℕ) → length (be w v) ≡ w
+unfolding be
+length-be w v = length-reverse (digits 256 w v) ∙ length-digits 256 w v
+
 pub ofBe-be : (w v : ℕ) → v < 256 ^ w → ofBe (be w v) ≡ v
 unfolding be ofBe
 ofBe-be w v h = ap (number 256) (reverse-reverse (digits 256 w v)) ∙ number-digits 256 (lit< tt) w v h

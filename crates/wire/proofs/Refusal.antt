@@ -6,7 +6,7 @@ use mathlib.Core.List.{List, [], _∷_, _++_}
 use Prim.Native.Nat.{ℕ, zero, suc}
 use native.Mathlib.Omega.{arith}
 use lib.Dec.{T}
-use Rattle.wire.specs.Refusal.{Rule, _when_, pick, first, NoneHolds, FirstIs, numbered, InOrder}
+use Rattle.wire.specs.Refusal.{Rule, _when_, pick, first, NoneHolds, FirstIs, numbered, FirstInOrder}
 
 pub first-skips : (rs ss : List Rule) → NoneHolds rs → first (rs ++ ss) ≡ first ss
 unfolding pick
@@ -60,7 +60,7 @@ pub none-both : (rs ss : List Rule) → NoneHolds rs → NoneHolds ss → NoneHo
 none-both [] ss h k = k
 none-both ((n when b) ∷ rs) ss h k = (h .0, none-both rs ss (h .1) k)
 
-pub refusal-law : (rs : List Rule) → T (numbered rs) → InOrder rs
+pub refusal-law : (rs : List Rule) → T (numbered rs) → FirstInOrder rs (first rs)
 refusal-law rs t = ((λ n. (is-first rs n, first-is rs (suc n))), none-first rs t, first-none rs)
 
 -- ---- for the code, which asks one condition after another: r is what a function answered that tests b. `search (hit, skip) depth 12`

@@ -35,9 +35,9 @@ numbered [] = true
 numbered ((zero when b) ∷ rs) = false
 numbered ((suc n when b) ∷ rs) = numbered rs
 
--- demand 1 of a list of rules: the answer is n just where rule n holds and no earlier one does, and 0 just where none holds
-abbrev pub InOrder : List Rule → Type 0
-InOrder rs =
-    ((n : ℕ) → (first rs ≡ suc n → FirstIs rs (suc n)) × (FirstIs rs (suc n) → first rs ≡ suc n))
-    × (first rs ≡ 0 → NoneHolds rs)
-    × (NoneHolds rs → first rs ≡ 0)
+-- demand 1 of an answer: it is n just where rule n holds and no earlier one does, and 0 just where none holds
+abbrev pub FirstInOrder : List Rule → ℕ → Type 0
+FirstInOrder rules answer =
+    ((n : ℕ) → (answer ≡ suc n → FirstIs rules (suc n)) × (FirstIs rules (suc n) → answer ≡ suc n))
+    × (answer ≡ 0 → NoneHolds rules)
+    × (NoneHolds rules → answer ≡ 0)
