@@ -3,3 +3,4 @@ pub mod Fields
 pub mod Reading
 pub mod Writing
 pub mod Sized
+pub mod Edges

@@ -1,7 +1,8 @@
 -- What a promise speaks of: an answer as the paper has it. Each room translates its enums by a definition of its own.
 -- Assumes nothing.
 use Prim.Native.Nat.{ℕ}
-use mathlib.Core.List.{List, []}
+use mathlib.Core.Path.{_≡_}
+use mathlib.Core.List.{List, [], _∷_}
 
 -- the paper's number, 0 for accepted, and the values that come with it
 pub record Told : Type 0 where
@@ -13,3 +14,12 @@ accepted values = record { number = 0; values = values }
 
 abbrev pub refused : ℕ → Told
 refused n = record { number = n; values = [] }
+
+-- ---- a table of edges: what is told, and what the paper says; it holds where each does
+pub data Edge : Type 0 where
+  _gives_ : Told → Told → Edge
+
+infix 80 _gives_
+abbrev pub Holds : List Edge → Type 0
+Holds [] = Unit {0}
+Holds ((told gives said) ∷ es) = (told ≡ said) × Holds es
