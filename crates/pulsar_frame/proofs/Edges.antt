@@ -1,0 +1,14 @@
+-- The edges of a frame, computed.
+-- Assumes nothing.
+use mathlib.Core.Path.{refl}
+use Rattle.checksum.specs.Crc.{crcFrom, crcBits}
+use Rattle.wire.specs.Numbers.{field, digits, number, le, ofLe, bcd, ofBcd, isBcd}
+use Rattle.wire.specs.Refusal.{pick}
+use Rattle.wire.specs.Told.{Holds}
+use Rattle.pulsar_frame.specs.Layout.{frameBody, frameBytes}
+use Rattle.pulsar_frame.specs.Reading.{readAtMeter}
+use Rattle.pulsar_frame.specs.Edges.{frameEdges}
+
+pub frame-edges : Holds frameEdges
+unfolding readAtMeter frameBytes frameBody crcFrom crcBits field isBcd ofBcd bcd le digits ofLe number pick
+frame-edges = (refl, (refl, (refl, (refl, (refl, (refl, (refl, tt)))))))

@@ -1,0 +1,14 @@
+-- `pulsar_frame::refuse::not_mine` meets its contract.
+-- Assumes nothing.
+use borrow.Author.Needs.{needs}
+use Rattle.pulsar_frame.proofs.refuse.not_mine.Statement.{statement}
+use Rattle.pulsar_frame.proofs.refuse.not_mine.Tie as tie
+
+address-of-requires : tie.Need-address-of-requires
+address-of-requires c κs = search needs
+
+returns : tie.Need-returns
+returns c = cc
+
+pub not-mine-spec : {M : Type 1} → statement M
+not-mine-spec = tie.close (tie.spec address-of-requires returns)

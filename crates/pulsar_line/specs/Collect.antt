@@ -1,0 +1,83 @@
+-- The line collector: it starts as a frame buffer of 255 zero bytes and count 0; each byte is added, bytes after the 255th are
+-- dropped, and silence hands the collected bytes over and starts afresh.
+-- Assumes nothing.
+use Prim.Native.Nat.{ℕ, zero, suc, _+_}
+use mathlib.Core.Bool.{Bool, true, false}
+use mathlib.Core.List.{List, [], _∷_, _++_}
+use lib.Dec.{ltb}
+use lib.ListN.{length, take, replicate, set}
+use Rattle.wire.specs.Numbers.{over}
+use Rattle.wire.specs.Refusal.{Rule, _when_, first}
+use Rattle.wire.specs.Told.{Told, accepted, refused}
+use Rattle.pulsar_line.specs.declared.Collector.{Collector}
+use Rattle.pulsar_line.specs.declared.Pushed.{Pushed}
+use Rattle.pulsar_line.specs.declared.Handed.{Handed}
+use Rattle.pulsar_line.specs.declared.Answer.{Answer}
+use Rattle.pulsar_line.specs.declared.Answer.the-variants.{Done, Refused}
+
+abbrev pub zeros : List ℕ
+zeros = replicate 255 0
+
+abbrev pub fresh : Collector
+fresh = record { bytes = zeros; count = 0 }
+
+-- 20 the collector's count above 255
+abbrev pub unfit : ℕ → Bool
+unfit count = ltb 255 count
+
+abbrev pub collectorRules : Collector → List Rule
+collectorRules c = 20 when unfit (c .count) ∷ []
+
+-- where there is room the byte is added, else it is dropped
+abbrev pub added : Bool → Collector → ℕ → Collector
+added true c b = record { bytes = set (c .bytes) (c .count) b; count = c .count + 1 }
+added false c b = c
+
+-- the answers where the refusal is n, 0 for none
+abbrev pub pushAnswer : ℕ → Collector → ℕ → Pushed
+pushAnswer zero c b = record { answer = Done; state = added (ltb (c .count) 255) c b }
+pushAnswer (suc n) c b = record { answer = Refused (suc n); state = c }
+
+abbrev pub silenceAnswer : ℕ → Collector → Handed
+silenceAnswer zero c = record { answer = Done; bytes = c .bytes; count = c .count; state = fresh }
+silenceAnswer (suc n) c = record { answer = Refused (suc n); bytes = zeros; count = 0; state = c }
+
+unfoldable pub pushed : Collector → ℕ → Pushed
+pushed c b = pushAnswer (first (collectorRules c)) c b
+
+unfoldable pub silenced : Collector → Handed
+silenced c = silenceAnswer (first (collectorRules c)) c
+
+-- ---- the paper's number and values: of a silence, the collected bytes
+abbrev pub toldAnswer : Answer → List ℕ → Told
+toldAnswer Done values = accepted values
+toldAnswer (Refused n) values = refused n
+
+abbrev pub toldPushed : Pushed → Told
+toldPushed p = toldAnswer (p .answer) []
+
+abbrev pub toldHanded : Handed → Told
+toldHanded h = toldAnswer (h .answer) (take (h .count) (h .bytes))
+
+-- ---- what the promise speaks of
+
+-- what comes from the line
+pub data Event : Type 0 where
+  byte : ℕ → Event
+  quiet : Event
+
+-- the collector after some events
+abbrev pub after : Collector → List Event → Collector
+after c [] = c
+after c (byte b ∷ es) = after (pushed c b .state) es
+after c (quiet ∷ es) = after (silenced c .state) es
+
+-- the bytes since the last silence, where bs came before the events
+abbrev pub since : List ℕ → List Event → List ℕ
+since bs [] = bs
+since bs (byte b ∷ es) = since (bs ++ (b ∷ [])) es
+since bs (quiet ∷ es) = since [] es
+
+-- what is handed over where xs was collected
+abbrev pub handing : List ℕ → Handed
+handing xs = record { answer = Done; bytes = over zeros xs; count = length xs; state = fresh }
