@@ -1,18 +1,10 @@
--- The checksum of nothing, of the byte 00 and of ASCII 123456789, computed.
+-- The edges of the checksum hold, computed.
 -- Assumes nothing.
-use mathlib.Core.Path.{_≡_, refl}
-use mathlib.Core.List.{List, [], _∷_}
-use Prim.Native.Nat.{ℕ}
-use Rattle.checksum.specs.Crc.{crcBits, crcFrom, crc}
+use mathlib.Core.Path.{refl}
+use Rattle.wire.specs.Told.{Holds}
+use Rattle.checksum.specs.Crc.{crcBits, crcFrom}
+use Rattle.checksum.specs.Edges.{checksumEdges}
 
-pub nothing : crc [] ≡ 0xFFFF
-unfolding crcFrom
-nothing = refl
-
-pub zero-byte : crc (0 ∷ []) ≡ 0x40BF
+pub checksum-edges : Holds checksumEdges
 unfolding crcFrom crcBits
-zero-byte = refl
-
-pub one-to-nine : crc (0x31 ∷ 0x32 ∷ 0x33 ∷ 0x34 ∷ 0x35 ∷ 0x36 ∷ 0x37 ∷ 0x38 ∷ 0x39 ∷ []) ≡ 0x4B37
-unfolding crcFrom crcBits
-one-to-nine = refl
+checksum-edges = (refl, (refl, (refl, tt)))

@@ -11,9 +11,11 @@ use lib.ListN.{length}
 use borrow.Author.Tests.{eq-eqb, ne-eqb, eqb-true, eqb-false}
 use Rattle.wire.specs.Each.{Each, Bytes}
 use Rattle.wire.specs.Numbers.{ofLe, number}
+use Rattle.wire.specs.Refusal.{first, FirstInOrder}
 use Rattle.wire.proofs.Numbers.{number-lt}
-use Rattle.reading.specs.Reading.{widthOf, numberOf, kindFrom, readingOf, bitsOf, kindOf, isAbsent, same}
-use Rattle.reading.specs.Values.{allFF}
+use Rattle.wire.proofs.Refusal.{refusal-law}
+use Rattle.reading.specs.Reading.{widthOf, numberOf, kindFrom, readingOf, bitsOf, kindOf, isAbsent, same, valueRules}
+use Rattle.reading.specs.Values.{placeRules, searchRules, allFF}
 use Rattle.reading.specs.declared.Kind.{Kind}
 use Rattle.reading.specs.declared.Kind.the-variants as K
 use Rattle.reading.specs.declared.Reading.{Reading}
@@ -104,3 +106,15 @@ absent-is-all-FF k bs h e =
     ap₂ (λ (x : ℕ) (y : Kind). eqb x (256 ^ widthOf y - 1)) (o .0) (o .1)
     ∙ ap (λ (n : ℕ). eqb (ofLe bs) (256 ^ n - 1)) (sym e)
     ∙ absent-bytes bs h
+
+-- ---- the order of refusals
+
+pub value-rules-first : (kind : Kind) (bytes : List ℕ) → FirstInOrder (valueRules kind bytes) (first (valueRules kind bytes))
+value-rules-first kind bytes = refusal-law (valueRules kind bytes) tt
+
+pub place-rules-first : (width : ℕ) (kind : Kind) (values : List ℕ) (place : ℕ)
+    → FirstInOrder (placeRules width kind values place) (first (placeRules width kind values place))
+place-rules-first width kind values place = refusal-law (placeRules width kind values place) tt
+
+pub search-rules-first : (width : ℕ) (values : List ℕ) → FirstInOrder (searchRules width values) (first (searchRules width values))
+search-rules-first width values = refusal-law (searchRules width values) tt
