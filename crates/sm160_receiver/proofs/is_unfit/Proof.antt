@@ -1,0 +1,12 @@
+-- `sm160_receiver::is_unfit` meets its contract.
+-- Assumes nothing.
+use Rattle.sm160_receiver.specs.Receiving.{unfit}
+use Rattle.sm160_receiver.proofs.is_unfit.Statement.{statement}
+use Rattle.sm160_receiver.proofs.is_unfit.Tie as tie
+
+returns : tie.Need-returns
+unfolding unfit
+returns c = cc
+
+pub is-unfit-spec : {M : Type 1} → statement M
+is-unfit-spec = tie.close (tie.spec returns)

@@ -1,0 +1,14 @@
+-- `sm160_receiver::other_session` meets its contract.
+-- Assumes nothing.
+use borrow.Author.Needs.{needs}
+use Rattle.sm160_receiver.proofs.other_session.Statement.{statement}
+use Rattle.sm160_receiver.proofs.other_session.Tie as tie
+
+session-of-requires : tie.Need-session-of-requires
+session-of-requires c κs = search needs
+
+returns : tie.Need-returns
+returns c = cc
+
+pub other-session-spec : {M : Type 1} → statement M
+other-session-spec = tie.close (tie.spec session-of-requires returns)

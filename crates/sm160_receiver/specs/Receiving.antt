@@ -1,0 +1,126 @@
+-- The receiver of a file: what it answers to a frame, and what its state and the lent buffer are afterwards.
+-- Assumes nothing.
+use Prim.Native.Nat.{ℕ, zero, suc, _+_}
+use mathlib.Core.Path.{_≡_}
+use mathlib.Core.Bool.{Bool, true, false, not, _||_, _&&_}
+use mathlib.Core.List.{List, [], _∷_, _++_}
+use lib.Dec.{ltb, eqb}
+use lib.ListN.{length}
+use lib.Seq.{sets}
+use Rattle.wire.specs.Refusal.{Rule, _when_, first}
+use Rattle.wire.specs.Told.{Told, accepted, refused}
+use Rattle.sm160_frame.specs.Layout.{sessionOf, offsetOf, partOf, isStart, isEnd}
+use Rattle.sm160_frame.specs.Reading.{frameRules}
+use Rattle.sm160_receiver.specs.declared.Receiver.{Receiver}
+use Rattle.sm160_receiver.specs.declared.Answer.{Answer}
+use Rattle.sm160_receiver.specs.declared.Answer.the-variants.{Held, Complete, Refused}
+
+-- opening sets count 0, nothing under way
+abbrev pub opened : ℕ → Receiver
+opened session = record { session = session; «under_way» = false; count = 0 }
+
+-- a file under way, of which n bytes are held
+abbrev pub holding : ℕ → ℕ → Receiver
+holding session n = record { session = session; «under_way» = true; count = n }
+
+-- where a frame's part ends
+unfoldable pub reached : List ℕ → ℕ
+reached f = offsetOf f + length (partOf f)
+
+-- 20 count beyond the buffer's bytes, under way with 0, or idle with other than 0
+unfoldable pub unfit : Receiver → ℕ → Bool
+unfit s room = ltb room (s .count) || (s .«under_way» && eqb (s .count) 0) || (not (s .«under_way») && not (eqb (s .count) 0))
+
+-- 26 other session
+abbrev pub otherSession : Receiver → List ℕ → Bool
+otherSession s f = not (eqb (sessionOf f) (s .session))
+
+-- 27 not START, nothing under way
+abbrev pub nothingUnderWay : Receiver → List ℕ → Bool
+nothingUnderWay s f = not (isStart f) && not (s .«under_way»)
+
+-- 28 START with offset not 0
+abbrev pub startElsewhere : List ℕ → Bool
+startElsewhere f = isStart f && not (eqb (offsetOf f) 0)
+
+-- 29 not START, offset below the count
+abbrev pub belowCount : Receiver → List ℕ → Bool
+belowCount s f = not (isStart f) && ltb (offsetOf f) (s .count)
+
+-- 30 not START, offset above the count
+abbrev pub aboveCount : Receiver → List ℕ → Bool
+aboveCount s f = not (isStart f) && ltb (s .count) (offsetOf f)
+
+-- 31 part ends beyond the buffer
+abbrev pub beyondBuffer : ℕ → List ℕ → Bool
+beyondBuffer room f = ltb room (reached f)
+
+-- the order, with a buffer of `room` bytes: 20, then 21 to 25 of the frame by itself, then 26 to 31
+abbrev pub placeRules : Receiver → ℕ → List ℕ → List Rule
+placeRules s room f =
+    26 when otherSession s f
+    ∷ 27 when nothingUnderWay s f
+    ∷ 28 when startElsewhere f
+    ∷ 29 when belowCount s f
+    ∷ 30 when aboveCount s f
+    ∷ 31 when beyondBuffer room f
+    ∷ []
+
+abbrev pub receiveRules : Receiver → ℕ → List ℕ → List Rule
+receiveRules s room f = 20 when unfit s room ∷ (frameRules f ++ placeRules s room f)
+
+-- the number of the first that holds, 0 for none
+unfoldable pub refusal : Receiver → ℕ → List ℕ → ℕ
+refusal s room f = first (receiveRules s room f)
+
+-- what a frame comes to
+pub record After : Type 0 where
+  pub answer : Answer
+  pub state : Receiver
+  pub buffer : List ℕ
+
+-- a refusal changes neither state nor buffer
+abbrev pub refuse : ℕ → Receiver → List ℕ → After
+refuse n s b = record { answer = Refused n; state = s; buffer = b }
+
+-- END completes: the answer is the length, then nothing is under way and the count is 0; any other frame is answered with the new count
+abbrev pub reply : Bool → ℕ → Answer
+reply true n = Complete n
+reply false n = Held n
+
+abbrev pub left : Bool → ℕ → ℕ → Receiver
+left true session n = opened session
+left false session n = holding session n
+
+-- an accepted frame's part is stored from its offset on, exactly its bytes, and the file reaches to the part's end; at START, which is
+-- at offset 0, it begins again
+abbrev pub accept : Receiver → List ℕ → List ℕ → After
+accept s f b =
+    record {
+      answer = reply (isEnd f) (reached f);
+      state = left (isEnd f) (s .session) (reached f);
+      buffer = sets b (offsetOf f) (partOf f);
+    }
+
+-- where the refusal is n: with 0, for none, the frame is accepted
+abbrev pub stepBy : ℕ → Receiver → List ℕ → List ℕ → After
+stepBy zero s f b = accept s f b
+stepBy (suc n) s f b = refuse (suc n) s b
+
+-- one frame f, at a receiver s with the buffer b
+unfoldable pub step : Receiver → List ℕ → List ℕ → After
+step s f b = stepBy (refusal s (length b) f) s f b
+
+-- what both functions promise: the answer, the state and the buffer after a frame are those, and no others
+unfoldable pub Took : Receiver → List ℕ → List ℕ → Answer → Receiver → List ℕ → Type 0
+Took s f b a s′ b′ = record { answer = a; state = s′; buffer = b′ } ≡ step s f b
+
+-- the same of a receiver opened for the frame, whose state is let go
+pub record TookFirst (session : ℕ) (f b : List ℕ) (a : Answer) (b′ : List ℕ) : Type 0 where
+  pub answer : a ≡ step (opened session) f b .answer
+  pub buffer : b′ ≡ step (opened session) f b .buffer
+
+abbrev pub toldAnswer : Answer → Told
+toldAnswer (Held n) = accepted (0 ∷ n ∷ [])
+toldAnswer (Complete n) = accepted (1 ∷ n ∷ [])
+toldAnswer (Refused n) = refused n

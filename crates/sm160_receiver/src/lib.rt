@@ -1,0 +1,220 @@
+// The receiver of an SM160 file: it puts the file together in a buffer that its caller lends.
+//
+// What a host must know: a real controller numbers its reply's offsets on from the request (the printed reply has START at 73), and START
+// with an offset other than 0 is refused with 28. So the host reads each reply frame by its fields (`sm160_frame::read_frame`, `part_of`),
+// takes the START's offset off its offset, writes it again by its fields (`sm160_frame::write_frame`), and feeds that.
+ghost use mathlib.Core.Path.{_≡_};
+ghost use Rattle.wire.specs.Refusal.{first};
+ghost use Rattle.sm160_receiver.specs.Receiving.{
+  opened,
+  reached,
+  unfit,
+  otherSession,
+  nothingUnderWay,
+  startElsewhere,
+  belowCount,
+  aboveCount,
+  beyondBuffer,
+  placeRules,
+  refusal,
+  reply,
+  left,
+  Took,
+  TookFirst,
+};
+
+// A session, whether a file is under way, and how many of its bytes are held. The count is as wide as a length, so that no sum wraps.
+pub struct Receiver {
+    pub session: u16,
+    pub under_way: bool,
+    pub count: usize,
+}
+
+pub enum Answer {
+    // The bytes held now.
+    Held(usize),
+    // The file is whole: its length.
+    Complete(usize),
+    // The paper's number.
+    Refused(u8),
+}
+
+pub struct Received {
+    pub answer: Answer,
+    pub state: Receiver,
+}
+
+pub fn open(session: u16) -> Receiver
+    ensures { λ r. ⌜ r ≡ opened session ⌝ }
+{
+    Receiver {
+        session,
+        under_way: false,
+        count: 0,
+    }
+}
+
+fn wide(x: u32) -> usize
+    ensures { λ r. ⌜ r ≡ x ⌝ }
+{
+    x as usize
+}
+
+// Where the frame's part ends.
+fn reach(frame: &[u8]) -> usize
+    ensures { λ r. ⌜ r ≡ reached (now (frame .entry)) ⌝ }
+{
+    wide(sm160_frame::offset_of(frame)) + sm160_frame::part_of(frame).len()
+}
+
+fn is_unfit(state: Receiver, room: usize) -> bool
+    ensures { λ r. ⌜ r ≡ unfit state room ⌝ }
+{
+    let n = state.count;
+    let going = state.under_way;
+    (room < n) | (going & (n == 0)) | (!going & (n != 0))
+}
+
+fn other_session(state: Receiver, frame: &[u8]) -> bool
+    ensures { λ r. ⌜ r ≡ otherSession state (now (frame .entry)) ⌝ }
+{
+    sm160_frame::session_of(frame) != state.session
+}
+
+fn nothing_under_way(state: Receiver, frame: &[u8]) -> bool
+    ensures { λ r. ⌜ r ≡ nothingUnderWay state (now (frame .entry)) ⌝ }
+{
+    !sm160_frame::is_start(frame) & !state.under_way
+}
+
+fn start_elsewhere(frame: &[u8]) -> bool
+    ensures { λ r. ⌜ r ≡ startElsewhere (now (frame .entry)) ⌝ }
+{
+    sm160_frame::is_start(frame) & (sm160_frame::offset_of(frame) != 0)
+}
+
+fn below_count(state: Receiver, frame: &[u8]) -> bool
+    ensures { λ r. ⌜ r ≡ belowCount state (now (frame .entry)) ⌝ }
+{
+    !sm160_frame::is_start(frame) & (wide(sm160_frame::offset_of(frame)) < state.count)
+}
+
+fn above_count(state: Receiver, frame: &[u8]) -> bool
+    ensures { λ r. ⌜ r ≡ aboveCount state (now (frame .entry)) ⌝ }
+{
+    !sm160_frame::is_start(frame) & (state.count < wide(sm160_frame::offset_of(frame)))
+}
+
+fn beyond_buffer(room: usize, frame: &[u8]) -> bool
+    ensures { λ r. ⌜ r ≡ beyondBuffer room (now (frame .entry)) ⌝ }
+{
+    room < reach(frame)
+}
+
+// The first rule of 26 to 31 that the frame breaks where the receiver stands, 0 for none.
+fn place_fault(state: Receiver, room: usize, frame: &[u8]) -> u8
+    ensures { λ r. ⌜ r ≡ first (placeRules state room (now (frame .entry))) ⌝ }
+{
+    if other_session(state, frame) {
+        return 26;
+    }
+    if nothing_under_way(state, frame) {
+        return 27;
+    }
+    if start_elsewhere(frame) {
+        return 28;
+    }
+    if below_count(state, frame) {
+        return 29;
+    }
+    if above_count(state, frame) {
+        return 30;
+    }
+    if beyond_buffer(room, frame) {
+        return 31;
+    }
+    0
+}
+
+// The first rule of 20 to 31 that holds, 0 for none.
+fn fault(state: Receiver, room: usize, frame: &[u8]) -> u8
+    ensures { λ r. ⌜ r ≡ refusal state room (now (frame .entry)) ⌝ }
+{
+    if is_unfit(state, room) {
+        return 20;
+    }
+    let by_itself = sm160_frame::frame_fault(frame);
+    if by_itself != 0 {
+        return by_itself;
+    }
+    place_fault(state, room, frame)
+}
+
+fn answered(ends: bool, reached: usize) -> Answer
+    ensures { λ r. ⌜ r ≡ reply ends reached ⌝ }
+{
+    if ends {
+        Answer::Complete(reached)
+    } else {
+        Answer::Held(reached)
+    }
+}
+
+fn gone_on(ends: bool, session: u16, reached: usize) -> Receiver
+    ensures { λ r. ⌜ r ≡ left ends session reached ⌝ }
+{
+    if ends {
+        open(session)
+    } else {
+        Receiver {
+            session,
+            under_way: true,
+            count: reached,
+        }
+    }
+}
+
+// One frame. A refusal changes neither the state nor the buffer.
+pub fn receive(state: Receiver, frame: &[u8], buffer: &mut [u8]) -> Received
+    ensures { λ r. ⌜ Took state (now (frame .entry)) (now (buffer .entry)) (r .answer) (r .state) (now (buffer .exit)) ⌝ }
+{
+    let number = fault(state, buffer.len(), frame);
+    if number != 0 {
+        return Received {
+            answer: Answer::Refused(number),
+            state,
+        };
+    }
+    let ends = sm160_frame::is_end(frame);
+    let reached = reach(frame);
+    wire::put_all(
+        buffer,
+        wide(sm160_frame::offset_of(frame)),
+        sm160_frame::part_of(frame),
+    );
+    Received {
+        answer: answered(ends, reached),
+        state: gone_on(ends, state.session, reached),
+    }
+}
+
+// One frame, at a receiver that is lent to the call and updated there.
+pub fn receive_lent(state: &mut Receiver, frame: &[u8], buffer: &mut [u8]) -> Answer
+    ensures { λ a. ⌜ Took (now (state .entry)) (now (frame .entry)) (now (buffer .entry)) a (now (state .exit)) (now (buffer .exit)) ⌝ }
+{
+    let out = receive(*state, frame, buffer);
+    *state = out.state;
+    out.answer
+}
+
+// The first frame, at a receiver opened for it: with plain parameters, so that its callers need no proof by hand.
+pub fn receive_first(session: u16, frame: &[u8], buffer: &mut [u8]) -> Answer
+    ensures { λ a. ⌜ TookFirst session (now (frame .entry)) (now (buffer .entry)) a (now (buffer .exit)) ⌝ }
+{
+    let mut state = Receiver {
+        session,
+        under_way: false,
+        count: 0,
+    };
+    receive_lent(&mut state, frame, buffer)
+}
