@@ -1,0 +1,4 @@
+pub mod Course
+pub mod Arrival
+pub mod Completion
+pub mod Sending
