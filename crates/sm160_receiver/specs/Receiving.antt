@@ -102,6 +102,9 @@ accept s f b =
       buffer = sets b (offsetOf f) (partOf f);
     }
 
+unfoldable pub Accepts : Receiver → List ℕ → List ℕ → Answer → Receiver → List ℕ → Type 0
+Accepts s f b a s′ b′ = record { answer = a; state = s′; buffer = b′ } ≡ accept s f b
+
 -- where the refusal is n: with 0, for none, the frame is accepted
 abbrev pub stepBy : ℕ → Receiver → List ℕ → List ℕ → After
 stepBy zero s f b = accept s f b

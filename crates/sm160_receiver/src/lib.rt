@@ -19,6 +19,7 @@ ghost use Rattle.sm160_receiver.specs.Receiving.{
   refusal,
   reply,
   left,
+  Accepts,
   Took,
   TookFirst,
 };
@@ -174,6 +175,20 @@ fn gone_on(ends: bool, session: u16, reached: usize) -> Receiver
     }
 }
 
+// A frame that no rule refuses: its part is stored from its offset on, exactly its bytes.
+fn accept_frame(state: Receiver, frame: &[u8], buffer: &mut [u8]) -> Received
+    ensures { λ r. ⌜ Accepts state (now (frame .entry)) (now (buffer .entry)) (r .answer) (r .state) (now (buffer .exit)) ⌝ }
+{
+    let ends = sm160_frame::is_end(frame);
+    let reached = reach(frame);
+    let at = wide(sm160_frame::offset_of(frame));
+    wire::put_all(buffer, at, sm160_frame::part_of(frame));
+    Received {
+        answer: answered(ends, reached),
+        state: gone_on(ends, state.session, reached),
+    }
+}
+
 // One frame. A refusal changes neither the state nor the buffer.
 pub fn receive(state: Receiver, frame: &[u8], buffer: &mut [u8]) -> Received
     ensures { λ r. ⌜ Took state (now (frame .entry)) (now (buffer .entry)) (r .answer) (r .state) (now (buffer .exit)) ⌝ }
@@ -185,17 +200,7 @@ pub fn receive(state: Receiver, frame: &[u8], buffer: &mut [u8]) -> Received
             state,
         };
     }
-    let ends = sm160_frame::is_end(frame);
-    let reached = reach(frame);
-    wire::put_all(
-        buffer,
-        wide(sm160_frame::offset_of(frame)),
-        sm160_frame::part_of(frame),
-    );
-    Received {
-        answer: answered(ends, reached),
-        state: gone_on(ends, state.session, reached),
-    }
+    accept_frame(state, frame, buffer)
 }
 
 // One frame, at a receiver that is lent to the call and updated there.
