@@ -14,27 +14,10 @@ use Rattle.wire.proofs.Bools.{or-false}
 use Rattle.wire.proofs.Refusal.{first-none, none-first}
 use Rattle.sm160_frame.specs.Layout.{sessionOf, offsetOf, partOf, isStart, isEnd}
 use Rattle.sm160_frame.specs.Reading.{frameRules, frameFault}
-use Rattle.sm160_receiver.specs.Receiving.{opened, holding, reached, unfit, receiveRules, refusal, reply, left, Took, After}
-use Rattle.sm160_receiver.specs.declared.Answer.{Answer}
+use Rattle.sm160_receiver.specs.Receiving.{opened, holding, reached, unfit, receiveRules, refusal, reply, left, After}
 use Rattle.sm160_receiver.specs.declared.Answer.the-variants.{Refused}
 use Rattle.sm160_receiver.proofs.Steps.{step-refused, step-accepted}
-use Rattle.demand3.specs.Course.{Side, newly, answer, next, answers, run, Calls}
-
--- ---- calls one after the other are the course
-called-once : (σ ρ : Side) (f : List ℕ) (a : Answer) → Took (σ .state) f (σ .buffer) a (ρ .state) (ρ .buffer) → (a ≡ answer σ f) × (ρ ≡ next σ f)
-unfolding Took
-called-once σ ρ f a e = (ap (λ (o : After). o .answer) e, ap (λ (o : After). record { state = o .state; buffer = o .buffer }) e)
-
-pub called : (σ : Side) (fs : List (List ℕ)) (rs : List Answer) (τ : Side) → Calls σ fs rs τ → (rs ≡ answers σ fs) × (τ ≡ run σ fs)
-unfolding Calls answers run
-called σ [] rs τ h = h
-called σ (f ∷ fs) [] τ h = absurd h
-called σ (f ∷ fs) (a ∷ rs) τ h =
-    let one = called-once σ (h .0) f a (h .1) in
-    let more = called (h .0) fs rs τ (h .2) in (
-      ap (λ (x : Answer). x ∷ rs) (one .0) ∙ ap (λ (l : List Answer). answer σ f ∷ l) (more .0 ∙ ap (λ (ρ : Side). answers ρ fs) (one .1)),
-      more .1 ∙ ap (λ (ρ : Side). run ρ fs) (one .1),
-    )
+use Rattle.demand3.specs.Course.{Side, newly, answer, next, run}
 
 -- ---- a frame is taken where no rule holds
 and-no : (a b : Bool) → (a ≡ true → b ≡ false) → (a && b) ≡ false

@@ -75,6 +75,11 @@ pub record Arrives (session : ℕ) (file : List ℕ) (σ : Side) (is : List Item
   -- of 1 to 240 bytes, in order, in good frames, with only refused frames between
   pub in-frames : InFrames session 0 true σ is
 
+-- frames as what comes in, each with its part and nothing between them
+unfoldable pub pieces : List (List ℕ) → List Item
+pieces [] = []
+pieces (f ∷ fs) = piece (partOf f) f ∷ pieces fs
+
 -- ---- and is delivered
 
 -- the answers to the file's own frames, among all

@@ -8,6 +8,7 @@ use lib.ListN.{length, take}
 use Rattle.sm160_frame.specs.Layout.{offsetOf, partOf, isStart}
 use Rattle.sm160_receiver.specs.declared.Answer.{Answer}
 use Rattle.sm160_receiver.specs.declared.Answer.the-variants.{Held, Complete, Refused}
+use Rattle.sm160_sender.specs.Course.{joined}
 use Rattle.demand3.specs.Course.{Side, answer, next}
 
 abbrev pub isRefused : Answer → Bool
@@ -28,11 +29,6 @@ keep false kept f = kept ++ (f ∷ [])
 unfoldable pub sinceStart : List (List ℕ) → List (List ℕ) → List (List ℕ)
 sinceStart kept [] = kept
 sinceStart kept (f ∷ fs) = sinceStart (keep (isStart f) kept f) fs
-
--- the frames' parts, joined
-unfoldable pub joined : List (List ℕ) → List ℕ
-joined [] = []
-joined (f ∷ fs) = partOf f ++ joined fs
 
 -- without gap or repeat: each frame's offset is where the one before it ended
 unfoldable pub InOrder : ℕ → List (List ℕ) → Type 0

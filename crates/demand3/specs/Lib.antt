@@ -1,4 +1,3 @@
 pub mod Course
 pub mod Arrival
 pub mod Completion
-pub mod Sending

@@ -40,7 +40,13 @@ fn rebase(frame: &[u8], start: u32, out: &mut [u8]) -> usize {
             if offset < start {
                 return 0;
             }
-            let written = sm160_frame::write_frame(f.session, offset - start, f.flags, sm160_frame::part_of(frame), out);
+            let written = sm160_frame::write_frame(
+                f.session,
+                offset - start,
+                f.flags,
+                sm160_frame::part_of(frame),
+                out,
+            );
             match written {
                 Written::Length(n) => n,
                 Written::Refused(n) => 0,
@@ -54,6 +60,13 @@ fn turn_rebased(state: Receiver, frame: &[u8], buffer: &mut [u8]) -> Receiver {
     let mut out = [0u8; 252];
     let n = rebase(frame, 73, &mut out);
     turn(state, wire::front(&out, n), buffer)
+}
+
+// The first frame alone, at a receiver that is opened for it.
+fn first_rebased(frame: &[u8], buffer: &mut [u8]) {
+    let mut out = [0u8; 252];
+    let n = rebase(frame, 73, &mut out);
+    tell(sm160_receiver::receive_first(2, wire::front(&out, n), buffer));
 }
 
 fn at(count: usize) -> Receiver {
@@ -72,12 +85,13 @@ fn feed(first: &[u8], second: &[u8], third: &[u8], last: &[u8]) {
     let c = turn(b, third, &mut buffer);
     turn(c, last, &mut buffer);
 
-    line(b"counted from START, and the last again");
+    line(b"counted from START, then the last again, then the first alone");
     let d = turn_rebased(sm160_receiver::open(2), first, &mut buffer);
     let e = turn_rebased(d, second, &mut buffer);
     let f = turn_rebased(e, third, &mut buffer);
     let g = turn_rebased(f, last, &mut buffer);
     turn_rebased(g, last, &mut buffer);
+    first_rebased(first, &mut buffer);
 
     line(b"at 141");
     let h = turn(at(141), second, &mut buffer);

@@ -1,9 +1,9 @@
 -- 01's edge: a receiver of session 2 at 141, with 68 good bytes at offset 141, 73 and 142.
 -- Assumes nothing.
 use mathlib.Core.Path.{_≡_, refl}
-use mathlib.Core.List.{List, [], _∷_}
+use mathlib.Core.List.{[], _∷_}
 use Prim.Native.Nat.{ℕ}
-use lib.ListN.{length, replicate}
+use lib.ListN.{replicate}
 use Rattle.wire.specs.Numbers.{digits, number, le, ofLe, field}
 use Rattle.wire.specs.Refusal.{pick}
 use Rattle.wire.specs.Told.{Told, accepted, refused}

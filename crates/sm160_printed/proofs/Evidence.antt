@@ -1,8 +1,7 @@
 -- What the printed traffic shows: one rule for the CRC16 and no other, and the flags.
 -- Assumes nothing.
 use mathlib.Core.Path.{_≡_, refl}
-use mathlib.Core.List.{List, [], _∷_, map}
-use Prim.Native.Nat.{ℕ}
+use mathlib.Core.List.{[], _∷_, map}
 use Rattle.wire.specs.Numbers.{number, ofLe, field}
 use Rattle.wire.specs.Refusal.{pick}
 use Rattle.checksum.specs.Crc.{crcBits, crcFrom}

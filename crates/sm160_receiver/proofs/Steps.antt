@@ -1,15 +1,12 @@
 -- One step: the order of its refusals, and what it is at a refusal and at none.
 -- Assumes nothing.
 use mathlib.Core.Path.{_≡_, refl, sym, ap, _∙_}
-use mathlib.Core.Bool.{true, false}
-use mathlib.Core.List.{List, [], _∷_, _++_}
+use mathlib.Core.List.{List, _++_}
 use Prim.Native.Nat.{ℕ, zero, suc}
-use native.Mathlib.Omega.{arith}
 use lib.ListN.{length}
 use lib.Seq.{sets}
-use Rattle.wire.specs.Refusal.{Rule, _when_, pick, first}
-use Rattle.wire.proofs.Refusal.{first-skips, none-first, refusal-law}
-use Rattle.sm160_frame.specs.Order.{FirstInOrder}
+use Rattle.wire.specs.Refusal.{FirstInOrder, Rule, first}
+use Rattle.wire.proofs.Refusal.{first-skips, first-hits, none-first, refusal-law}
 use Rattle.sm160_frame.specs.Layout.{offsetOf, partOf, isEnd}
 use Rattle.sm160_frame.specs.Reading.{frameRules, frameFault}
 use Rattle.sm160_receiver.specs.Receiving.{opened, Accepts, TookFirst, reached, receiveRules, refusal, reply, left, refuse, accept, stepBy, step, Took, After}
@@ -17,18 +14,10 @@ use Rattle.sm160_receiver.specs.declared.Receiver.{Receiver}
 use Rattle.sm160_receiver.specs.declared.Answer.{Answer}
 use Rattle.sm160_receiver.specs.declared.Answer.the-variants.{Refused}
 
--- ---- rules before others (of all lists of rules, so their place is in `wire`)
-pub first-found : (rs ss : List Rule) (n : ℕ) → first rs ≡ suc n → first (rs ++ ss) ≡ suc n
-unfolding pick
-first-found [] ss n e = absurd (omega arith)
-first-found ((m when true) ∷ rs) ss n e = e
-first-found ((m when false) ∷ rs) ss n e = first-found rs ss n e
-
 -- ---- the rules of the frame by itself, before others
 pub frame-found : (f : List ℕ) (rs : List Rule) (n : ℕ) → n ≡ frameFault f → (n ≡ 0 → ⊥) → n ≡ first (frameRules f ++ rs)
 unfolding frameFault
-frame-found f rs zero e h = absurd (h refl)
-frame-found f rs (suc n) e h = sym (first-found (frameRules f) rs n (sym e))
+frame-found f rs n e h = e ∙ sym (first-hits (frameRules f) rs (λ z. h (e ∙ z)))
 
 pub frame-passed : (f : List ℕ) (rs : List Rule) (n k : ℕ) → n ≡ frameFault f → n ≡ 0 → k ≡ first rs → k ≡ first (frameRules f ++ rs)
 unfolding frameFault
