@@ -77,40 +77,51 @@ fn at(count: usize) -> Receiver {
     }
 }
 
-fn feed(first: &[u8], second: &[u8], third: &[u8], last: &[u8]) {
+fn as_printed(first: &[u8], second: &[u8], third: &[u8], last: &[u8]) {
     line(b"as printed");
     let mut buffer = [0u8; 318];
     let a = turn(sm160_receiver::open(2), first, &mut buffer);
     let b = turn(a, second, &mut buffer);
     let c = turn(b, third, &mut buffer);
     turn(c, last, &mut buffer);
+}
 
+fn counted_from_start(first: &[u8], second: &[u8], third: &[u8], last: &[u8]) {
     line(b"counted from START, then the last again, then the first alone");
-    let d = turn_rebased(sm160_receiver::open(2), first, &mut buffer);
-    let e = turn_rebased(d, second, &mut buffer);
-    let f = turn_rebased(e, third, &mut buffer);
-    let g = turn_rebased(f, last, &mut buffer);
-    turn_rebased(g, last, &mut buffer);
+    let mut buffer = [0u8; 318];
+    let a = turn_rebased(sm160_receiver::open(2), first, &mut buffer);
+    let b = turn_rebased(a, second, &mut buffer);
+    let c = turn_rebased(b, third, &mut buffer);
+    let d = turn_rebased(c, last, &mut buffer);
+    turn_rebased(d, last, &mut buffer);
     first_rebased(first, &mut buffer);
+}
 
-    line(b"at 141");
-    let h = turn(at(141), second, &mut buffer);
-    let i = turn(h, third, &mut buffer);
-    turn(i, last, &mut buffer);
-
-    line(b"one byte less of buffer");
+fn from_141(second: &[u8], third: &[u8], last: &[u8]) {
+    line(b"at 141, to the end of the buffer; then with one byte less of it");
+    let mut buffer = [0u8; 318];
+    let a = turn(at(141), second, &mut buffer);
+    let b = turn(a, third, &mut buffer);
+    turn(b, last, &mut buffer);
     let mut short = [0u8; 317];
-    turn(at(277), last, &mut short);
+    turn(b, last, &mut short);
+}
 
-    line(b"START over a file under way");
-    let j = turn_rebased(sm160_receiver::open(2), first, &mut buffer);
-    let k = turn_rebased(j, second, &mut buffer);
-    let l = turn_rebased(k, first, &mut buffer);
-    turn_rebased(l, second, &mut buffer);
+fn start_again(first: &[u8], second: &[u8]) {
+    line(b"START over a file under way, then a refused START, and the file goes on");
+    let mut buffer = [0u8; 318];
+    let a = turn_rebased(sm160_receiver::open(2), first, &mut buffer);
+    let b = turn_rebased(a, second, &mut buffer);
+    let c = turn_rebased(b, first, &mut buffer);
+    let d = turn(c, first, &mut buffer);
+    turn_rebased(d, second, &mut buffer);
+}
 
-    line(b"a refused START, and the file goes on");
-    let m = turn(d, first, &mut buffer);
-    turn_rebased(m, second, &mut buffer);
+fn feed(first: &[u8], second: &[u8], third: &[u8], last: &[u8]) {
+    as_printed(first, second, third, last);
+    counted_from_start(first, second, third, last);
+    from_141(second, third, last);
+    start_again(first, second);
 }
 
 fn tell_read(bytes: &[u8]) {

@@ -1,2 +1,2 @@
 pub mod Evidence
-pub mod At141
+pub mod Edges

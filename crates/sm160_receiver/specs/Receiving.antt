@@ -88,6 +88,7 @@ abbrev pub reply : Bool → ℕ → Answer
 reply true n = Complete n
 reply false n = Held n
 
+-- the state that it leaves
 abbrev pub left : Bool → ℕ → ℕ → Receiver
 left true session n = opened session
 left false session n = holding session n
@@ -123,6 +124,7 @@ pub record TookFirst (session : ℕ) (f b : List ℕ) (a : Answer) (b′ : List 
   pub answer : a ≡ step (opened session) f b .answer
   pub buffer : b′ ≡ step (opened session) f b .buffer
 
+-- accepted with 0 and the count held, or with 1 and the length of the whole file
 abbrev pub toldAnswer : Answer → Told
 toldAnswer (Held n) = accepted (0 ∷ n ∷ [])
 toldAnswer (Complete n) = accepted (1 ∷ n ∷ [])
