@@ -13,7 +13,7 @@ use Rattle.sm160_frame.specs.Layout.{offsetOf, partOf, isStart, isEnd}
 use Rattle.sm160_receiver.specs.Receiving.{reached, reply, left}
 use Rattle.sm160_receiver.specs.declared.Answer.{Answer}
 use Rattle.sm160_receiver.specs.declared.Answer.the-variants.{Complete, Refused}
-use Rattle.sm160_sender.specs.Course.{joined}
+use Rattle.sm160_frame.specs.Carried.{joined}
 use Rattle.demand3.specs.Course.{Side, newly, answer, next, run}
 use Rattle.demand3.specs.Completion.{isRefused, accepted, keep, sinceStart, InOrder, NoStart, FromStart, Holds}
 use Rattle.demand3.proofs.Taking.{Taken, next-taken, answer-taken, either-way}

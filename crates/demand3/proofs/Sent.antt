@@ -14,7 +14,8 @@ use Rattle.wire.proofs.Refusal.{none-first}
 use Rattle.sm160_frame.specs.Layout.{partOf}
 use Rattle.sm160_frame.specs.Reading.{frameRules, frameFault}
 use Rattle.sm160_sender.specs.Sending.{badFile, badLargest}
-use Rattle.sm160_sender.specs.Course.{Call, Course, frames as sent-frames, Carries, none as no-frames, InTurn, joined, Carried}
+use Rattle.sm160_frame.specs.Carried.{Carries, none as no-frames, InTurn, joined, Carried}
+use Rattle.sm160_sender.specs.Course.{Call, Course, frames as sent-frames}
 use Rattle.sm160_sender.proofs.Course.{sent as sends, sends-whole}
 use Rattle.demand3.specs.Course.{Side, newly, next, run}
 use Rattle.demand3.specs.Arrival.{Brings, parts, join, none, InFrames, pieces, Delivered}

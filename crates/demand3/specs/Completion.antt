@@ -8,7 +8,7 @@ use lib.ListN.{length, take}
 use Rattle.sm160_frame.specs.Layout.{offsetOf, partOf, isStart}
 use Rattle.sm160_receiver.specs.declared.Answer.{Answer}
 use Rattle.sm160_receiver.specs.declared.Answer.the-variants.{Held, Complete, Refused}
-use Rattle.sm160_sender.specs.Course.{joined}
+use Rattle.sm160_frame.specs.Carried.{joined}
 use Rattle.demand3.specs.Course.{Side, answer, next}
 
 abbrev pub isRefused : Answer → Bool

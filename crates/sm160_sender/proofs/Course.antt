@@ -16,9 +16,10 @@ use Rattle.wire.specs.Writes.{writeOutput}
 use Rattle.wire.proofs.Each.{each-drop, each-take}
 use Rattle.wire.proofs.Refusal.{first-none, none-first}
 use Rattle.sm160_frame.specs.Layout.{START, END, has, partOf, isStart, isEnd}
+use Rattle.sm160_frame.specs.Carried.{Carries, none, InTurn, joined, Carried}
 use Rattle.sm160_frame.proofs.Bytes.{made-session, made-offset, made-flags, made-part, made-good}
 use Rattle.sm160_sender.specs.Sending.{partAt, nextPlace, remainsAt, flagsFor, flagsAt, sentBytes, badFile, badLargest, pastEnd, noRoom, sendRules, sendAnswer, Sends}
-use Rattle.sm160_sender.specs.Course.{Call, Course, frames, Carries, none, InTurn, joined, Carried}
+use Rattle.sm160_sender.specs.Course.{Call, Course, frames}
 use Rattle.sm160_sender.specs.declared.Sent.the-variants.{Frame}
 use Rattle.sm160_sender.proofs.Parts.{Sendable, sendable, length-part, good-part, good-flags}
 

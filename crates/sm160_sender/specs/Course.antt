@@ -1,16 +1,11 @@
--- A file sent whole, and what it is for frames to carry a file.
+-- A file sent whole: calls of the sender, one after the other.
 -- Assumes nothing.
-use Prim.Native.Nat.{ℕ, _+_}
+use Prim.Native.Nat.{ℕ}
 use mathlib.Core.Path.{_≡_}
-use mathlib.Core.Bool.{Bool, true, false}
-use mathlib.Core.List.{List, [], _∷_, _++_}
+use mathlib.Core.List.{List, [], _∷_}
 use lib.ListN.{length, take}
-use Rattle.sm160_frame.specs.Layout.{sessionOf, offsetOf, partOf, isStart, isEnd}
-use Rattle.sm160_frame.specs.Reading.{frameFault}
 use Rattle.sm160_sender.specs.Sending.{Sends}
 use Rattle.sm160_sender.specs.declared.Sent.the-variants.{Frame}
-
--- ---- calls of the sender
 
 -- a call that wrote a frame: the output lent to it and as it was left, the answered length and the next place
 pub record Call : Type 0 where
@@ -29,32 +24,3 @@ Course file session largest place (c ∷ cs) =
 unfoldable pub frames : List Call → List (List ℕ)
 frames [] = []
 frames (c ∷ cs) = take (c .size) (c .left) ∷ frames cs
-
--- ---- frames that carry a file (this speaks of frames alone, so its place is in `sm160_frame`)
-
--- f is good by 01, of the session, for the place, and has START and END as said
-pub record Carries (session place : ℕ) (start end : Bool) (f : List ℕ) : Type 0 where
-  pub good : frameFault f ≡ 0
-  pub ours : sessionOf f ≡ session
-  pub placed : offsetOf f ≡ place
-  pub starts : isStart f ≡ start
-  pub ends : isEnd f ≡ end
-
-abbrev pub none : List (List ℕ) → Bool
-none [] = true
-none (f ∷ fs) = false
-
--- frames in order, each for the place where the one before it ended; START, where `start`, on the first only, END on the last only
-unfoldable pub InTurn : ℕ → ℕ → Bool → List (List ℕ) → Type 0
-InTurn session place start [] = Unit {0}
-InTurn session place start (f ∷ fs) = Carries session place start (none fs) f × InTurn session (place + length (partOf f)) false fs
-
--- their parts, joined
-unfoldable pub joined : List (List ℕ) → List ℕ
-joined [] = []
-joined (f ∷ fs) = partOf f ++ joined fs
-
--- the frames carry the file from its start to its end
-pub record Carried (session : ℕ) (file : List ℕ) (fs : List (List ℕ)) : Type 0 where
-  pub whole : joined fs ≡ file
-  pub turns : InTurn session 0 true fs
