@@ -1,0 +1,15 @@
+-- `pulsar_reply::judge::is_uneven` meets its contract.
+-- Assumes nothing.
+use Rattle.reading.proofs.Answers.{width-pos}
+use borrow.Author.Needs.{needs}
+use Rattle.pulsar_reply.proofs.judge.is_uneven.Statement.{statement}
+use Rattle.pulsar_reply.proofs.judge.is_uneven.Tie as tie
+
+rem-result : tie.Need-rem-result
+rem-result c = width-pos (c .args .width) (c .pre)
+
+returns : tie.Need-returns
+returns c = search needs
+
+pub is-uneven-spec : {M : Type 1} → statement M
+is-uneven-spec = tie.close (tie.spec rem-result returns)

@@ -1,0 +1,14 @@
+-- `pulsar_reply::judge::not_zero` meets its contract.
+-- Assumes nothing.
+use borrow.Author.Needs.{needs}
+use Rattle.pulsar_reply.proofs.judge.not_zero.Statement.{statement}
+use Rattle.pulsar_reply.proofs.judge.not_zero.Tie as tie
+
+byte-at-requires : tie.Need-byte-at-requires
+byte-at-requires c κs = search needs
+
+returns : tie.Need-returns
+returns c = cc
+
+pub not-zero-spec : {M : Type 1} → statement M
+not-zero-spec = tie.close (tie.spec byte-at-requires returns)

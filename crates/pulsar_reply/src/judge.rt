@@ -1,0 +1,257 @@
+// The refusals of replies, in the paper's order.
+use crate::Function;
+use crate::Reply;
+use date::DateTime;
+use pulsar_request::fields;
+ghost use mathlib.Core.Path.{_≡_};
+ghost use mathlib.Core.Bool.{false};
+ghost use Prim.Native.Nat.{_*_};
+ghost use lib.ListN.{length};
+ghost use Rattle.wire.specs.Refusal.{first};
+ghost use Rattle.reading.specs.Mask.{channelCount};
+ghost use Rattle.reading.specs.Values.{uneven, badWidth};
+ghost use Rattle.pulsar_request.specs.Writing.{roomRules};
+ghost use Rattle.pulsar_reply.specs.Layout.{headLength};
+ghost use Rattle.pulsar_reply.specs.Fields.{otherThan, badValues, notClock, badStatus, notZero, notThreeZeros, notTwoZeros, archiveFaults};
+ghost use Rattle.pulsar_reply.specs.Reading.{isUnknown, badLength, clockRules, statusRules, zerosRules, fieldRules, replyRules};
+ghost use Rattle.pulsar_reply.specs.Writing.{statusFaults, fieldFaults, writingRules};
+
+fn is_unknown(function: Function) -> bool
+    ensures { λ r. ⌜ r ≡ isUnknown function ⌝ }
+{
+    match function {
+        Function::Error => false,
+        Function::Channels => false,
+        Function::ChannelsWritten => false,
+        Function::Clock => false,
+        Function::ClockSet => false,
+        Function::Archive => false,
+        Function::Parameter => false,
+        Function::ParameterWritten => false,
+        Function::Unknown => true,
+    }
+}
+
+pub fn head_length(function: Function) -> usize
+    ensures { λ r. ⌜ r ≡ headLength function ⌝ }
+{
+    match function {
+        Function::Error => 1,
+        Function::Channels => 0,
+        Function::ChannelsWritten => 4,
+        Function::Clock => 6,
+        Function::ClockSet => 4,
+        Function::Archive => 10,
+        Function::Parameter => 0,
+        Function::ParameterWritten => 2,
+        Function::Unknown => 0,
+    }
+}
+
+fn other_than(n: usize, values: &[u8]) -> bool
+    ensures { λ r. ⌜ r ≡ otherThan n (now (values .entry)) ⌝ }
+{
+    values.len() != n
+}
+
+// At most 32 channels of 8 bytes.
+fn channel_bytes(mask: u32, width: usize) -> usize
+    requires { ⌜ badWidth width ≡ false ⌝ }
+    ensures { λ r. ⌜ r ≡ channelCount mask * width ⌝ }
+{
+    reading::mask::channel_count(mask) * width
+}
+
+fn is_uneven(width: usize, values: &[u8]) -> bool
+    requires { ⌜ badWidth width ≡ false ⌝ }
+    ensures { λ r. ⌜ r ≡ uneven width (now (values .entry)) ⌝ }
+{
+    values.len() % width != 0
+}
+
+fn bad_values(function: Function, width: usize, mask: u32, values: &[u8]) -> bool
+    requires { ⌜ badWidth width ≡ false ⌝ }
+    ensures { λ r. ⌜ r ≡ badValues function width mask (now (values .entry)) ⌝ }
+{
+    match function {
+        Function::Error => other_than(0, values),
+        Function::Channels => other_than(channel_bytes(mask, width), values),
+        Function::ChannelsWritten => other_than(0, values),
+        Function::Clock => other_than(0, values),
+        Function::ClockSet => other_than(0, values),
+        Function::Archive => is_uneven(width, values),
+        Function::Parameter => other_than(8, values),
+        Function::ParameterWritten => other_than(0, values),
+        Function::Unknown => other_than(0, values),
+    }
+}
+
+fn bad_length(function: Function, width: usize, mask: u32, body: &[u8]) -> bool
+    requires { ⌜ badWidth width ≡ false ⌝ }
+    ensures { λ r. ⌜ r ≡ badLength function width mask (now (body .entry)) ⌝ }
+{
+    let head = head_length(function);
+    let bad = bad_values(function, width, mask, wire::rest(body, head));
+    (245 < body.len()) | (body.len() < head) | bad
+}
+
+fn not_clock(d: DateTime) -> bool
+    ensures { λ r. ⌜ r ≡ notClock d ⌝ }
+{
+    !(date::is_date(d) | date::is_no_date(d))
+}
+
+fn clock_fault(d: DateTime) -> u8
+    ensures { λ r. ⌜ r ≡ first (clockRules d) ⌝ }
+{
+    if not_clock(d) {
+        return 13;
+    }
+    0
+}
+
+fn bad_status(status: u8) -> bool
+    ensures { λ r. ⌜ r ≡ badStatus status ⌝ }
+{
+    1 < status
+}
+
+fn not_zero(body: &[u8], at: usize) -> bool
+    ensures { λ r. ⌜ r ≡ notZero (now (body .entry)) at ⌝ }
+{
+    wire::byte_at(body, at) != 0
+}
+
+fn not_three_zeros(body: &[u8]) -> bool
+    ensures { λ r. ⌜ r ≡ notThreeZeros (now (body .entry)) ⌝ }
+{
+    not_zero(body, 1) | not_zero(body, 2) | not_zero(body, 3)
+}
+
+fn not_two_zeros(body: &[u8]) -> bool
+    ensures { λ r. ⌜ r ≡ notTwoZeros (now (body .entry)) ⌝ }
+{
+    not_zero(body, 0) | not_zero(body, 1)
+}
+
+fn status_fields(body: &[u8]) -> u8
+    ensures { λ r. ⌜ r ≡ first (statusRules (now (body .entry))) ⌝ }
+{
+    if bad_status(wire::byte_at(body, 0)) {
+        return 15;
+    }
+    if not_three_zeros(body) {
+        return 15;
+    }
+    0
+}
+
+fn zeros(body: &[u8]) -> u8
+    ensures { λ r. ⌜ r ≡ first (zerosRules (now (body .entry))) ⌝ }
+{
+    if not_two_zeros(body) {
+        return 15;
+    }
+    0
+}
+
+fn archive_faults(mask: u32, from: DateTime) -> u8
+    ensures { λ r. ⌜ r ≡ first (archiveFaults mask from) ⌝ }
+{
+    if fields::not_one(mask) {
+        return 12;
+    }
+    if fields::not_date(from) {
+        return 13;
+    }
+    0
+}
+
+fn body_fields(function: Function, mask: u32, body: &[u8]) -> u8
+    ensures { λ r. ⌜ r ≡ first (fieldRules function mask (now (body .entry))) ⌝ }
+{
+    match function {
+        Function::Error => 0,
+        Function::Channels => fields::mask_fault(mask),
+        Function::ChannelsWritten => 0,
+        Function::Clock => clock_fault(date::date_at(body, 0)),
+        Function::ClockSet => status_fields(body),
+        Function::Archive => archive_faults(wire::le32_at(body, 0), date::date_at(body, 4)),
+        Function::Parameter => 0,
+        Function::ParameterWritten => zeros(body),
+        Function::Unknown => 0,
+    }
+}
+
+// The number of the first rule that holds, 0 where none does.
+pub fn reading(function: Function, width: usize, mask: u32, body: &[u8]) -> u8
+    ensures { λ r. ⌜ r ≡ first (replyRules function width mask (now (body .entry))) ⌝ }
+{
+    if reading::values::bad_width(width) {
+        return 1;
+    }
+    if is_unknown(function) {
+        return 10;
+    }
+    if bad_length(function, width, mask, body) {
+        return 11;
+    }
+    body_fields(function, mask, body)
+}
+
+fn status_fault(status: u8) -> u8
+    ensures { λ r. ⌜ r ≡ first (statusFaults status) ⌝ }
+{
+    if bad_status(status) {
+        return 15;
+    }
+    0
+}
+
+fn reply_faults(reply: Reply, mask: u32) -> u8
+    ensures { λ r. ⌜ r ≡ first (fieldFaults reply mask) ⌝ }
+{
+    match reply {
+        Reply::Error(_) => 0,
+        Reply::Channels => fields::mask_fault(mask),
+        Reply::ChannelsWritten(_) => 0,
+        Reply::Clock(d) => fields::date_fault(d),
+        Reply::NoClock => 0,
+        Reply::ClockSet(status) => status_fault(status),
+        Reply::Archive(a) => {
+            let from = a.first;
+            archive_faults(a.mask, from)
+        }
+        Reply::Parameter => 0,
+        Reply::ParameterWritten => 0,
+    }
+}
+
+fn room(needed: usize, room: usize) -> u8
+    ensures { λ r. ⌜ r ≡ first (roomRules needed room) ⌝ }
+{
+    if 245 < needed {
+        return 17;
+    }
+    if room < needed {
+        return 16;
+    }
+    0
+}
+
+pub fn writing(reply: Reply, width: usize, mask: u32, values: &[u8], out: usize) -> u8
+    ensures { λ r. ⌜ r ≡ first (writingRules reply width mask (now (values .entry)) out) ⌝ }
+{
+    if reading::values::bad_width(width) {
+        return 1;
+    }
+    let function = crate::function_of(reply);
+    if bad_values(function, width, mask, values) {
+        return 11;
+    }
+    let fault = reply_faults(reply, mask);
+    if fault != 0 {
+        return fault;
+    }
+    room(head_length(function) + values.len(), out)
+}
