@@ -1,0 +1,62 @@
+-- Both sides of the edges of replies, at width 4.
+-- Assumes nothing.
+use mathlib.Core.List.{List, [], _∷_, _++_}
+use Prim.Native.Nat.{ℕ}
+use Rattle.wire.specs.Told.{Told, accepted, refused, Edge, _gives_}
+use Rattle.reading.specs.Reading.{toldValue}
+use Rattle.reading.specs.Values.{valueAt}
+use Rattle.reading.specs.declared.Kind.the-variants as K
+use Rattle.pulsar_reply.specs.Layout.{valuesOf}
+use Rattle.pulsar_reply.specs.Reading.{readReply, toldReply}
+use Rattle.pulsar_reply.specs.declared.Reply.the-variants as P
+
+-- a reply of a function, where that mask was asked
+abbrev pub answered : ℕ → ℕ → List ℕ → Told
+answered function mask body = toldReply (readReply function 4 mask body)
+
+-- the whole number at a place of an 01 reply
+abbrev pub valued : List ℕ → ℕ → Told
+valued body place = toldValue (valueAt 4 K.U32 (valuesOf P.Channels body) place)
+
+abbrev pub twoValues : List ℕ
+twoValues = 7 ∷ 0 ∷ 0 ∷ 0 ∷ 9 ∷ 0 ∷ 0 ∷ 0 ∷ []
+
+-- the 04 reply of that month; six bytes FF; an 06 reply with that lowest byte of its mask, up to its first date
+abbrev pub clock : ℕ → List ℕ
+clock month = 24 ∷ month ∷ 31 ∷ 23 ∷ 59 ∷ 59 ∷ []
+
+abbrev pub noClock : List ℕ
+noClock = 255 ∷ 255 ∷ 255 ∷ 255 ∷ 255 ∷ 255 ∷ []
+
+abbrev pub archive : ℕ → List ℕ → List ℕ
+archive low first = low ∷ 0 ∷ 0 ∷ 0 ∷ first
+
+abbrev pub replyEdges : List Edge
+replyEdges =
+    answered 1 5 twoValues gives accepted (1 ∷ [])
+    ∷ valued twoValues 1 gives accepted (2 ∷ 7 ∷ [])
+    ∷ valued twoValues 2 gives accepted (2 ∷ 9 ∷ [])
+    ∷ valued twoValues 3 gives refused 11
+    ∷ answered 1 5 (7 ∷ 0 ∷ 0 ∷ 0 ∷ 9 ∷ 0 ∷ 0 ∷ []) gives refused 11
+    ∷ answered 1 0 [] gives refused 12
+    ∷ answered 1 0 twoValues gives refused 11
+    ∷ answered 2 5 (0 ∷ 0 ∷ 0 ∷ 0 ∷ []) gives accepted (2 ∷ 0 ∷ [])
+    ∷ answered 4 0 (clock 12) gives accepted (4 ∷ 24 ∷ 12 ∷ 31 ∷ 23 ∷ 59 ∷ 59 ∷ [])
+    ∷ answered 4 0 (clock 13) gives refused 13
+    ∷ answered 4 0 noClock gives accepted (4 ∷ [])
+    ∷ answered 4 0 (255 ∷ 255 ∷ 255 ∷ 255 ∷ 255 ∷ 254 ∷ []) gives refused 13
+    ∷ answered 5 0 (1 ∷ 0 ∷ 0 ∷ 0 ∷ []) gives accepted (5 ∷ 1 ∷ [])
+    ∷ answered 5 0 (2 ∷ 0 ∷ 0 ∷ 0 ∷ []) gives refused 15
+    ∷ answered 5 0 (1 ∷ 0 ∷ 0 ∷ 1 ∷ []) gives refused 15
+    ∷ answered 6 0 (archive 4 (clock 12)) gives accepted (6 ∷ 4 ∷ 24 ∷ 12 ∷ 31 ∷ 23 ∷ 59 ∷ 59 ∷ [])
+    ∷ answered 6 0 (archive 5 (clock 12)) gives refused 12
+    ∷ answered 6 0 (archive 4 noClock) gives refused 13
+    ∷ answered 6 0 (archive 4 (24 ∷ 12 ∷ 31 ∷ 23 ∷ 59 ∷ [])) gives refused 11
+    ∷ answered 6 0 (archive 4 (clock 12) ++ twoValues) gives accepted (6 ∷ 4 ∷ 24 ∷ 12 ∷ 31 ∷ 23 ∷ 59 ∷ 59 ∷ [])
+    ∷ answered 10 0 twoValues gives accepted (10 ∷ [])
+    ∷ answered 11 0 (0 ∷ 0 ∷ []) gives accepted (11 ∷ [])
+    ∷ answered 11 0 (0 ∷ 1 ∷ []) gives refused 15
+    ∷ answered 0 0 (200 ∷ []) gives accepted (0 ∷ 200 ∷ [])
+    ∷ answered 0 0 [] gives refused 11
+    ∷ answered 3 0 [] gives refused 10
+    ∷ []
