@@ -1,10 +1,10 @@
 -- The round trips of replies: what is written reads back as the same reply and values, and what is accepted, written again, gives the
--- same bytes. Both for every kind, and once over the width. And the order of refusals.
+-- same bytes. Both for every kind, and once over the width.
 -- Assumes nothing.
 use mathlib.Core.Path.{_≡_, refl, sym, ap, ap₂, _∙_, subst}
 use mathlib.Core.Bool.{Bool, true, false, not, _||_}
 use mathlib.Core.List.{List, [], _∷_, _++_, append-assoc}
-use Prim.Native.Nat.{ℕ, zero, suc, _+_, _^_, _≤_, _<_}
+use Prim.Native.Nat.{ℕ, zero, suc, _^_, _≤_, _<_}
 use native.Mathlib.Omega.{arith}
 use lib.Dec.{T, eqb, ltb}
 use lib.ListN.{length, take, drop, getD, take-append-drop}
@@ -12,11 +12,11 @@ use lib.Seq.{drop-at}
 use borrow.Author.Tests.{eqb-true, ltb-false, le-ltb, not-false}
 use Rattle.wire.specs.Each.{Bytes}
 use Rattle.wire.specs.Numbers.{le, field}
-use Rattle.wire.specs.Refusal.{Rule, _when_, first, NoneHolds, numbered, FirstInOrder}
+use Rattle.wire.specs.Refusal.{first, NoneHolds, numbered}
 use Rattle.wire.proofs.Bools.{or-false, false-or}
 use Rattle.wire.proofs.Fields.{field-at, field-take, field-append}
 use Rattle.wire.proofs.Numbers.{length-le}
-use Rattle.wire.proofs.Refusal.{first-none, none-first, numbered-append, none-append, none-both, refusal-law}
+use Rattle.wire.proofs.Refusal.{first-none, none-first, numbered-append, none-append, none-both}
 use Rattle.date.specs.Date.{dateBytes, dateOf, isDate, isNoDate, noDate}
 use Rattle.date.specs.declared.DateTime.{DateTime}
 use Rattle.date.proofs.Laws.{date-writes-again}
@@ -95,7 +95,7 @@ known-back (P.Archive a) = (refl, refl)
 known-back P.Parameter = (refl, refl)
 known-back P.ParameterWritten = (refl, refl)
 
-numbered-writing : (q : Reply) (mask n room : ℕ) → T (numbered (fieldFaults q mask ++ roomRules n room))
+pub numbered-writing : (q : Reply) (mask n room : ℕ) → T (numbered (fieldFaults q mask ++ roomRules n room))
 numbered-writing q mask n room = numbered-append (fieldFaults q mask) (roomRules n room) (numbered-faults q mask) tt
 
 pub reply-reads-back : (q : Reply) (width mask : ℕ) (vs : List ℕ) (room : ℕ) → Sized q → first (writingRules q width mask vs room) ≡ 0
@@ -206,7 +206,7 @@ accepted : (n : ℕ) (f : Function) (s : List ℕ) (q : Reply) → replyAnswer n
 accepted zero f s q e = (refl, (cc))
 accepted (suc n) f s q e = absurd (let z : _≡_ {A = ℕ} 0 1 = cc in omega arith)
 
-numbered-reading : (f : Function) (mask : ℕ) (s : List ℕ) → T (numbered (fieldRules f mask s))
+pub numbered-reading : (f : Function) (mask : ℕ) (s : List ℕ) → T (numbered (fieldRules f mask s))
 numbered-reading F.Error mask s = tt
 numbered-reading F.Channels mask s = tt
 numbered-reading F.ChannelsWritten mask s = tt
@@ -263,11 +263,3 @@ reply-writes-again number width mask s q bytes e =
     subst (λ (p : Reply). (replyBytes p (valuesOf p s) ≡ s) × ((room : ℕ) → length s ≤ room → first (writingRules p width mask (valuesOf p s) room) ≡ 0))
     (ok .1)
     (bytes-again f width mask s bytes (ok .0), writable f width mask s bytes (ok .0))
-
--- ---- the order of refusals
-
-pub reply-rules-first : (f : Function) (width mask : ℕ) (s : List ℕ) → FirstInOrder (replyRules f width mask s) (first (replyRules f width mask s))
-reply-rules-first f width mask s = refusal-law (replyRules f width mask s) (numbered-reading f mask s)
-
-pub writing-rules-first : (q : Reply) (width mask : ℕ) (vs : List ℕ) (room : ℕ) → FirstInOrder (writingRules q width mask vs room) (first (writingRules q width mask vs room))
-writing-rules-first q width mask vs room = refusal-law (writingRules q width mask vs room) (numbered-writing q mask (length (replyBytes q vs)) room)

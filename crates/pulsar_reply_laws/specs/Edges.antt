@@ -3,6 +3,8 @@
 use mathlib.Core.List.{List, [], _∷_, _++_}
 use Prim.Native.Nat.{ℕ}
 use Rattle.wire.specs.Told.{Told, accepted, refused, Edge, _gives_}
+use lib.ListN.{replicate}
+use Rattle.reading.specs.Mask.{channelOf}
 use Rattle.reading.specs.Reading.{toldValue}
 use Rattle.reading.specs.Values.{valueAt}
 use Rattle.reading.specs.declared.Kind.the-variants as K
@@ -17,6 +19,10 @@ answered function mask body = toldReply (readReply function 4 mask body)
 -- the whole number at a place of an 01 reply
 abbrev pub valued : List ℕ → ℕ → Told
 valued body place = toldValue (valueAt 4 K.U32 (valuesOf P.Channels body) place)
+
+-- the channel of the value at a place
+abbrev pub placed : ℕ → ℕ → Told
+placed mask place = accepted (channelOf mask place ∷ [])
 
 abbrev pub twoValues : List ℕ
 twoValues = 7 ∷ 0 ∷ 0 ∷ 0 ∷ 9 ∷ 0 ∷ 0 ∷ 0 ∷ []
@@ -34,6 +40,8 @@ archive low first = low ∷ 0 ∷ 0 ∷ 0 ∷ first
 abbrev pub replyEdges : List Edge
 replyEdges =
     answered 1 5 twoValues gives accepted (1 ∷ [])
+    ∷ placed 5 1 gives accepted (1 ∷ [])
+    ∷ placed 5 2 gives accepted (3 ∷ [])
     ∷ valued twoValues 1 gives accepted (2 ∷ 7 ∷ [])
     ∷ valued twoValues 2 gives accepted (2 ∷ 9 ∷ [])
     ∷ valued twoValues 3 gives refused 11
@@ -53,6 +61,8 @@ replyEdges =
     ∷ answered 6 0 (archive 4 noClock) gives refused 13
     ∷ answered 6 0 (archive 4 (24 ∷ 12 ∷ 31 ∷ 23 ∷ 59 ∷ [])) gives refused 11
     ∷ answered 6 0 (archive 4 (clock 12) ++ twoValues) gives accepted (6 ∷ 4 ∷ 24 ∷ 12 ∷ 31 ∷ 23 ∷ 59 ∷ 59 ∷ [])
+    ∷ answered 6 0 (archive 4 (clock 12) ++ replicate 232 0) gives accepted (6 ∷ 4 ∷ 24 ∷ 12 ∷ 31 ∷ 23 ∷ 59 ∷ 59 ∷ [])
+    ∷ answered 6 0 (archive 4 (clock 12) ++ replicate 236 0) gives refused 11
     ∷ answered 10 0 twoValues gives accepted (10 ∷ [])
     ∷ answered 11 0 (0 ∷ 0 ∷ []) gives accepted (11 ∷ [])
     ∷ answered 11 0 (0 ∷ 1 ∷ []) gives refused 15

@@ -1,6 +1,6 @@
 -- The numbers of a reply as wide as their fields: what the types of the code carry.
 -- Assumes nothing.
-use Prim.Native.Nat.{ℕ, _<_, _^_}
+use Prim.Native.Nat.{_<_, _^_}
 use Rattle.pulsar_reply.specs.declared.Reply.{Reply}
 use Rattle.pulsar_reply.specs.declared.Reply.the-variants as P
 
