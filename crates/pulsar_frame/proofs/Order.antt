@@ -1,26 +1,19 @@
 -- First in order and only when its condition holds: the number told is that of the first rule, for both readers and both writers.
 -- Assumes nothing.
-use mathlib.Core.Path.{_≡_, refl, sym, ap, subst}
+use mathlib.Core.Path.{_≡_, refl}
 use mathlib.Core.List.{List}
 use Prim.Native.Nat.{ℕ, zero, suc}
-use lib.Dec.{T}
-use Rattle.wire.specs.Refusal.{Rule, first, numbered, FirstInOrder}
-use Rattle.wire.specs.Writes.{Writes, toldWritten}
+use Rattle.wire.specs.Refusal.{first, FirstInOrder}
+use Rattle.wire.specs.Writes.{toldWritten}
 use Rattle.wire.specs.declared.Written.{Written}
-use Rattle.wire.proofs.Refusal.{refusal-law}
+use Rattle.wire.proofs.Refusal.{in-order}
+use Rattle.wire.proofs.Writes.{told-written}
 use Rattle.pulsar_frame.specs.Reading.{meterRules, masterRules, readAnswer, readAtMeter, readAtMaster, toldFrameRead}
 use Rattle.pulsar_frame.specs.Writing.{requestRules, replyRules, WritesRequest, WritesReply}
-
-in-order : (rs : List Rule) (told : ℕ) → T (numbered rs) → first rs ≡ told → FirstInOrder rs told
-in-order rs told t e = subst (FirstInOrder rs) e (refusal-law rs t)
 
 told-read : (n : ℕ) (s : List ℕ) → n ≡ toldFrameRead (readAnswer n s) .number
 told-read zero s = refl
 told-read (suc n) s = refl
-
-told-written : (n : ℕ) (bs out : List ℕ) (r : Written) (out′ : List ℕ) → Writes n bs out r out′ → n ≡ toldWritten r .number
-told-written zero bs out r out′ w = ap (λ (x : Written). toldWritten x .number) (sym (w .answer))
-told-written (suc n) bs out r out′ w = ap (λ (x : Written). toldWritten x .number) (sym (w .answer))
 
 pub meter-first : (own : ℕ) (s : List ℕ) → FirstInOrder (meterRules own s) (toldFrameRead (readAtMeter own s) .number)
 unfolding readAtMeter

@@ -16,7 +16,7 @@ use Rattle.wire.specs.Each.{Bytes}
 use Rattle.wire.specs.Numbers.{bcd, le, ofBcd, ofLe, isBcd, field, digits}
 use Rattle.wire.proofs.Bools.{T-true, true-T, or-false, false-or}
 use Rattle.wire.proofs.Each.{each-append, getD-each}
-use Rattle.wire.proofs.Numbers.{length-bcd, length-le, ofBcd-bcd, ofBcd-lt, bcd-ofBcd, bcd-isBcd, bcd-bytes, ofLe-le, le-ofLe, le-bytes, number-lt}
+use Rattle.wire.proofs.Numbers.{length-bcd, length-le, ofBcd-bcd, ofBcd-lt, bcd-ofBcd, bcd-isBcd, bcd-bytes, ofLe-le, le-ofLe, le-bytes, ofLe-lt}
 use Rattle.wire.proofs.Fields.{field-at, field-take, field-append, length-field, field-bytes}
 use Rattle.pulsar_frame.specs.Layout.{frameBody, frameBytes, lenOf, addressOf, functionOf, payloadOf, idOf, crcOf, coveredOf}
 use Rattle.pulsar_frame.specs.Reading.{tooShort, notBcd, badLength, badCrc}
@@ -113,11 +113,6 @@ module _ (a f id : ℕ) (p rest : List ℕ) where
       (le-ltb (length S) (lenOf S) (rw written-len (simp (length-append, length-frame) (omega arith))))
 
 -- ---- what was read
-
--- belongs in `wire`, beside `ofBcd-lt`
-ofLe-lt : (bs : List ℕ) → Bytes bs → ofLe bs < 256 ^ length bs
-unfolding ofLe
-ofLe-lt bs h = number-lt 256 (lit< tt) bs h
 
 module _ (s : List ℕ) (whole : badLength s ≡ false) where
   pub ten : 10 ≤ lenOf s

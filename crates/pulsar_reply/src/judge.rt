@@ -10,7 +10,6 @@ ghost use lib.ListN.{length};
 ghost use Rattle.wire.specs.Refusal.{first};
 ghost use Rattle.reading.specs.Mask.{channelCount};
 ghost use Rattle.reading.specs.Values.{uneven, badWidth};
-ghost use Rattle.pulsar_request.specs.Writing.{roomRules};
 ghost use Rattle.pulsar_reply.specs.Layout.{headLength};
 ghost use Rattle.pulsar_reply.specs.Fields.{otherThan, badValues, notClock, badStatus, notZero, notThreeZeros, notTwoZeros, archiveFaults};
 ghost use Rattle.pulsar_reply.specs.Reading.{isUnknown, badLength, clockRules, statusRules, zerosRules, fieldRules, replyRules};
@@ -227,18 +226,6 @@ fn reply_faults(reply: Reply, mask: u32) -> u8
     }
 }
 
-fn room(needed: usize, room: usize) -> u8
-    ensures { λ r. ⌜ r ≡ first (roomRules needed room) ⌝ }
-{
-    if 245 < needed {
-        return 17;
-    }
-    if room < needed {
-        return 16;
-    }
-    0
-}
-
 pub fn writing(reply: Reply, width: usize, mask: u32, values: &[u8], out: usize) -> u8
     ensures { λ r. ⌜ r ≡ first (writingRules reply width mask (now (values .entry)) out) ⌝ }
 {
@@ -253,5 +240,5 @@ pub fn writing(reply: Reply, width: usize, mask: u32, values: &[u8], out: usize)
     if fault != 0 {
         return fault;
     }
-    room(head_length(function) + values.len(), out)
+    fields::room(head_length(function) + values.len(), out)
 }

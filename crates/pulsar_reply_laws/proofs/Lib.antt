@@ -1,4 +1,3 @@
-pub mod Laws
 pub mod RoundTrip
 pub mod Order
 pub mod Edges

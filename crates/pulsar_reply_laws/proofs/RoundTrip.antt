@@ -14,12 +14,12 @@ use Rattle.wire.specs.Each.{Bytes}
 use Rattle.wire.specs.Numbers.{le, field}
 use Rattle.wire.specs.Refusal.{first, NoneHolds, numbered}
 use Rattle.wire.proofs.Bools.{or-false, false-or}
-use Rattle.wire.proofs.Fields.{field-at, field-take, field-append}
+use Rattle.wire.proofs.Fields.{field-at, field-take, field-append, number-at, number-again}
 use Rattle.wire.proofs.Numbers.{length-le}
 use Rattle.wire.proofs.Refusal.{first-none, none-first, numbered-append, none-append, none-both}
 use Rattle.date.specs.Date.{dateBytes, dateOf, isDate, isNoDate, noDate}
 use Rattle.date.specs.declared.DateTime.{DateTime}
-use Rattle.date.proofs.Laws.{date-writes-again}
+use Rattle.date.proofs.Laws.{date-writes-again, date-some, no-date-bytes}
 use Rattle.pulsar_request.specs.Layout.{pick}
 use Rattle.pulsar_request.specs.Fields.{notOne, notDate}
 use Rattle.pulsar_request.specs.Writing.{roomRules}
@@ -35,7 +35,6 @@ use Rattle.pulsar_reply.specs.declared.Function.{Function}
 use Rattle.pulsar_reply.specs.declared.Function.the-variants as F
 use Rattle.pulsar_reply.proofs.Cases.{length-head, length-reply, numbered-faults}
 use Rattle.pulsar_reply_laws.specs.Sized.{Sized}
-use Rattle.pulsar_reply_laws.proofs.Laws.{number-at, number-again, date-some, no-date-bytes}
 
 -- ---- what is written reads back
 

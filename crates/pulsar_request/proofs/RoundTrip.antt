@@ -14,17 +14,20 @@ use borrow.Author.Tests.{eqb-true, eqb-false, eq-eqb, ne-eqb, ltb-false, le-ltb,
 use Rattle.wire.specs.Each.{Bytes}
 use Rattle.wire.specs.Numbers.{le, ofLe, field}
 use Rattle.wire.specs.Refusal.{Rule, _when_, first, NoneHolds, numbered, FirstInOrder}
+use Rattle.wire.specs.Writes.{Writes, toldWritten}
+use Rattle.wire.specs.declared.Written.{Written}
 use Rattle.wire.proofs.Bools.{or-false, false-or}
-use Rattle.wire.proofs.Fields.{field-at, field-take, field-append, length-field, field-bytes}
-use Rattle.wire.proofs.Numbers.{length-le, ofLe-le, le-ofLe}
-use Rattle.wire.proofs.Refusal.{first-none, none-first, numbered-append, none-append, none-both, refusal-law}
+use Rattle.wire.proofs.Fields.{field-at, field-take, field-append, number-at, number-again}
+use Rattle.wire.proofs.Numbers.{length-le}
+use Rattle.wire.proofs.Refusal.{first-none, none-first, numbered-append, none-append, none-both, in-order}
+use Rattle.wire.proofs.Writes.{told-written}
 use Rattle.date.specs.Date.{dateBytes, dateOf}
 use Rattle.date.specs.declared.DateTime.{DateTime}
 use Rattle.date.proofs.Laws.{date-writes-again}
 use Rattle.reading.specs.Values.{badWidth}
 use Rattle.pulsar_request.specs.Layout.{functionFrom, functionOf, functionNumber, typeNumber, typeFrom, headBytes, archiveBytes, requestBytes, headLength, valuesLength, maskOf, dateIn, typeOf, firstOf, lastOf, indexOf, archiveOf, requestOf, valuesOf}
 use Rattle.pulsar_request.specs.Fields.{noChannel, notOne, notDate, badType, maskFaults}
-use Rattle.pulsar_request.specs.Reading.{isUnknown, badLength, fieldRules, requestRules, requestAnswer, readRequest}
+use Rattle.pulsar_request.specs.Reading.{isUnknown, badLength, fieldRules, requestRules, requestAnswer, readRequest, toldRequest}
 use Rattle.pulsar_request.specs.Writing.{maskIn, badValues, fieldFaults, roomRules, writingRules}
 use Rattle.pulsar_request.specs.Sized.{Sized}
 use Rattle.pulsar_request.specs.declared.ArchiveKind.{ArchiveKind}
@@ -52,9 +55,6 @@ good-type A.Daily = refl
 good-type A.Monthly = refl
 good-type A.HalfHourly = refl
 
-number-at : (p q r : List ℕ) (at w v : ℕ) → length p ≡ at → q ≡ le w v → v < 256 ^ w → ofLe (field (p ++ (q ++ r)) at w) ≡ v
-number-at p q r at w v ep eq h = ap ofLe (field-at p q r at w ep (ap length eq ∙ length-le w v) ∙ eq) ∙ ofLe-le w v h
-
 -- the fields of a request's bytes
 pub record Back (q : Request) (s : List ℕ) : Type 0 where
   pub fields : requestOf (functionOf q) s ≡ q
@@ -62,10 +62,10 @@ pub record Back (q : Request) (s : List ℕ) : Type 0 where
   pub count : (width : ℕ) → valuesLength (functionOf q) width (maskOf s) ≡ valuesLength (functionOf q) width (maskIn q)
 
 mask-back : (m : ℕ) (vs : List ℕ) → m < 256 ^ 4 → maskOf (le 4 m ++ vs) ≡ m
-mask-back m vs h = number-at [] (le 4 m) vs 0 4 m refl refl h
+mask-back m vs h = number-at [] vs 0 4 m refl h
 
 index-back : (i : ℕ) (vs : List ℕ) → i < 256 ^ 2 → indexOf (le 2 i ++ vs) ≡ i
-index-back i vs h = number-at [] (le 2 i) vs 0 2 i refl refl h
+index-back i vs h = number-at [] vs 0 2 i refl h
 
 archive-back : (a : ArchiveRequest) (vs : List ℕ) → a .mask < 256 ^ 4 → Back (Q.ReadArchive a) (archiveBytes a ++ vs)
 archive-back a vs h =
@@ -81,7 +81,7 @@ archive-back a vs h =
     let six : length (m ++ k) ≡ 6 = simp (length-append, length-le) in
     let twelve : length (m ++ k ++ f) ≡ 12 = simp (length-append, length-le) in
     let em : maskOf s ≡ a .mask = ap maskOf from-mask ∙ mask-back (a .mask) ((k ++ (f ++ l)) ++ vs) h in
-    let et : typeOf s ≡ typeNumber (a .kind) = ap typeOf from-type ∙ number-at m k ((f ++ l) ++ vs) 4 2 (typeNumber (a .kind)) (length-le 4 (a .mask)) refl (small (a .kind)) in
+    let et : typeOf s ≡ typeNumber (a .kind) = ap typeOf from-type ∙ number-at m ((f ++ l) ++ vs) 4 2 (typeNumber (a .kind)) (length-le 4 (a .mask)) (small (a .kind)) in
     let ef : firstOf s ≡ a .first = ap firstOf from-first ∙ ap dateOf (field-at (m ++ k) f (l ++ vs) 6 6 six refl) in
     let el : lastOf s ≡ a .last = ap lastOf from-last ∙ ap dateOf (field-at (m ++ k ++ f) l vs 12 6 twelve refl) in
     record {
@@ -170,17 +170,14 @@ pub record Again (f : Function) (s : List ℕ) : Type 0 where
   pub count : (width : ℕ) → valuesLength f width (maskIn (requestOf f s)) ≡ valuesLength f width (maskOf s)
 
 module _ (s : List ℕ) (bytes : Bytes s) where
-  number-again : (at w : ℕ) → le w (ofLe (field s at w)) ≡ field s at w
-  number-again at w = ap (λ (n : ℕ). le n (ofLe (field s at w))) (sym (length-field s at w)) ∙ le-ofLe (field s at w) (field-bytes s at w bytes)
-
   number-front : (w : ℕ) → w ≤ length s → le w (ofLe (field s 0 w)) ≡ take w s
-  number-front w h = number-again 0 w ∙ field-take s 0 w (omega arith)
+  number-front w h = number-again s 0 w bytes ∙ field-take s 0 w (omega arith)
 
   archive-again : 18 ≤ length s → NoneHolds (fieldRules F.ReadArchive s) → Again F.ReadArchive s
   archive-again h n =
       let et : typeNumber (typeFrom (typeOf s)) ≡ typeOf s = type-again (typeOf s) (n .1 .0) in
-      let k : le 2 (typeNumber (typeFrom (typeOf s))) ≡ field s 4 2 = ap (le 2) et ∙ number-again 4 2 in
-      let m : le 4 (maskOf s) ≡ field s 0 4 = number-again 0 4 in
+      let k : le 2 (typeNumber (typeFrom (typeOf s))) ≡ field s 4 2 = ap (le 2) et ∙ number-again s 4 2 bytes in
+      let m : le 4 (maskOf s) ≡ field s 0 4 = number-again s 0 4 bytes in
       let f : dateBytes (firstOf s) ≡ field s 6 6 = date-writes-again s 6 in
       let l : dateBytes (lastOf s) ≡ field s 12 6 = date-writes-again s 12 in
       let joined : field s 0 4 ++ (field s 4 2 ++ (field s 6 6 ++ field s 12 6)) ≡ field s 0 18 =
@@ -276,10 +273,21 @@ request-writes-again number width s q bytes e =
     (ok .1)
     (bytes-again f width s bytes (ok .0), writable f width s bytes (ok .0))
 
--- ---- the order of refusals
+-- ---- the order of refusals, of what is told
 
-pub request-rules-first : (f : Function) (width : ℕ) (s : List ℕ) → FirstInOrder (requestRules f width s) (first (requestRules f width s))
-request-rules-first f width s = refusal-law (requestRules f width s) (numbered-reading f s)
+told-read : (n : ℕ) (f : Function) (s : List ℕ) → n ≡ toldRequest (requestAnswer n f s) .number
+told-read zero f s = refl
+told-read (suc n) f s = refl
 
-pub writing-rules-first : (q : Request) (width : ℕ) (vs : List ℕ) (room : ℕ) → FirstInOrder (writingRules q width vs room) (first (writingRules q width vs room))
-writing-rules-first q width vs room = refusal-law (writingRules q width vs room) (numbered-writing q (length (requestBytes q vs)) room)
+pub read-request-first : (number width : ℕ) (s : List ℕ)
+    → FirstInOrder (requestRules (functionFrom number) width s) (toldRequest (readRequest number width s) .number)
+unfolding readRequest
+read-request-first number width s =
+    let f = functionFrom number in
+    in-order (requestRules f width s) _ (numbered-reading f s) (told-read (first (requestRules f width s)) f s)
+
+pub write-request-first : (q : Request) (width : ℕ) (vs out : List ℕ) (r : Written) (out′ : List ℕ)
+    → Writes (first (writingRules q width vs (length out))) (requestBytes q vs) out r out′
+    → FirstInOrder (writingRules q width vs (length out)) (toldWritten r .number)
+write-request-first q width vs out r out′ w =
+    in-order (writingRules q width vs (length out)) _ (numbered-writing q (length (requestBytes q vs)) (length out)) (told-written _ _ out r out′ w)

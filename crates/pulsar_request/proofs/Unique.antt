@@ -15,6 +15,7 @@ use Rattle.pulsar_request.proofs.fields.not_one.Reads as not-one
 use Rattle.pulsar_request.proofs.fields.not_date.Reads as not-date
 use Rattle.pulsar_request.proofs.fields.mask_fault.Reads as mask-fault
 use Rattle.pulsar_request.proofs.fields.date_fault.Reads as date-fault
+use Rattle.pulsar_request.proofs.fields.room.Reads as room
 
 pub type-number-unique : Unique type-number.Post (λ κs r s. r)
 type-number-unique κs a r r′ s s′ e e′ = e ∙ sym e′
@@ -39,3 +40,6 @@ mask-fault-unique κs a r r′ s s′ e e′ = e ∙ sym e′
 
 pub date-fault-unique : Unique date-fault.Post (λ κs r s. r)
 date-fault-unique κs a r r′ s s′ e e′ = e ∙ sym e′
+
+pub room-unique : Unique room.Post (λ κs r s. r)
+room-unique κs a r r′ s s′ e e′ = e ∙ sym e′

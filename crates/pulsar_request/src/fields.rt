@@ -2,6 +2,7 @@
 use date::DateTime;
 ghost use mathlib.Core.Path.{_≡_};
 ghost use Rattle.wire.specs.Refusal.{first};
+ghost use Rattle.pulsar_request.specs.Writing.{roomRules};
 ghost use Rattle.pulsar_request.specs.Fields.{noChannel, notOne, notDate, maskFaults, dateFaults};
 
 fn no_channel(mask: u32) -> bool
@@ -36,6 +37,19 @@ pub fn date_fault(d: DateTime) -> u8
 {
     if not_date(d) {
         return 13;
+    }
+    0
+}
+
+// 17 and 16, of a body that needs so many bytes and an output of so many.
+pub fn room(needed: usize, room: usize) -> u8
+    ensures { λ r. ⌜ r ≡ first (roomRules needed room) ⌝ }
+{
+    if 245 < needed {
+        return 17;
+    }
+    if room < needed {
+        return 16;
     }
     0
 }

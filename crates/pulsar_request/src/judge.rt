@@ -11,7 +11,7 @@ ghost use Rattle.wire.specs.Refusal.{first};
 ghost use Rattle.pulsar_request.specs.Layout.{headLength, valuesLength, functionOf};
 ghost use Rattle.pulsar_request.specs.Fields.{badType};
 ghost use Rattle.pulsar_request.specs.Reading.{isUnknown, badLength, archiveRules, fieldRules, requestRules};
-ghost use Rattle.pulsar_request.specs.Writing.{maskIn, badValues, archiveFaults, fieldFaults, roomRules, writingRules};
+ghost use Rattle.pulsar_request.specs.Writing.{maskIn, badValues, archiveFaults, fieldFaults, writingRules};
 
 fn is_unknown(function: Function) -> bool
     ensures { λ r. ⌜ r ≡ isUnknown function ⌝ }
@@ -191,18 +191,6 @@ fn request_faults(request: Request) -> u8
     }
 }
 
-pub fn room(needed: usize, room: usize) -> u8
-    ensures { λ r. ⌜ r ≡ first (roomRules needed room) ⌝ }
-{
-    if 245 < needed {
-        return 17;
-    }
-    if room < needed {
-        return 16;
-    }
-    0
-}
-
 pub fn writing(request: Request, width: usize, values: &[u8], out: usize) -> u8
     ensures { λ r. ⌜ r ≡ first (writingRules request width (now (values .entry)) out) ⌝ }
 {
@@ -217,5 +205,5 @@ pub fn writing(request: Request, width: usize, values: &[u8], out: usize) -> u8
         return fault;
     }
     let head = head_length(crate::function_of(request));
-    room(head + values.len(), out)
+    fields::room(head + values.len(), out)
 }

@@ -12,6 +12,7 @@ use borrow.Author.Tests.{eq-eqb, ne-eqb, eqb-true, eqb-false}
 use Rattle.wire.specs.Each.{Each, Bytes}
 use Rattle.wire.specs.Numbers.{ofLe, number}
 use Rattle.wire.specs.Refusal.{first, FirstInOrder}
+use Rattle.wire.proofs.Bools.{and-true}
 use Rattle.wire.proofs.Numbers.{number-lt}
 use Rattle.wire.proofs.Refusal.{refusal-law}
 use Rattle.reading.specs.Reading.{widthOf, numberOf, kindFrom, readingOf, bitsOf, kindOf, isAbsent, same, valueRules}
@@ -46,14 +47,10 @@ whole (F64 n) = refl
 whole (U32 n) = refl
 whole (U64 n) = refl
 
-both : (a b : Bool) → (a && b) ≡ true → (a ≡ true) × (b ≡ true)
-both true b e = (refl, e)
-both false b e = absurd (let z : _≡_ {A = ℕ} 0 1 = cc in omega arith)
-
 -- readings that are the same are one, and one is the same as itself: a NaN too, and +0 is not -0
 pub same-is-one : (a b : Reading) → same a b ≡ true → a ≡ b
 same-is-one a b e =
-    let t = both (eqb (numberOf (kindOf a)) (numberOf (kindOf b))) (eqb (bitsOf a) (bitsOf b)) e in
+    let t = and-true (eqb (numberOf (kindOf a)) (numberOf (kindOf b))) (eqb (bitsOf a) (bitsOf b)) e in
     sym (whole a) ∙ ap₂ made (eqb-true (numberOf (kindOf a)) (numberOf (kindOf b)) (t .0)) (eqb-true (bitsOf a) (bitsOf b) (t .1)) ∙ whole b
 
 pub same-as-itself : (a : Reading) → same a a ≡ true

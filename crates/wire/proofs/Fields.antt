@@ -2,15 +2,16 @@
 -- Assumes nothing.
 use mathlib.Core.Path.{_≡_, refl, sym, ap, ap₂, _∙_}
 use mathlib.Core.List.{List, [], _∷_, _++_}
-use Prim.Native.Nat.{ℕ, zero, suc, _+_, _≤_, _<_}
+use Prim.Native.Nat.{ℕ, zero, suc, _+_, _^_, _≤_, _<_}
 use native.Mathlib.Nat.{zero-add, add-zero, suc-add}
 use native.Mathlib.Numerals.{add-one}
 use native.Mathlib.Omega.{arith}
 use lib.ListN.{length, take, drop, getD, length-append}
 use lib.Seq.{drop-cons, drop-at, take-at}
-use Rattle.wire.specs.Numbers.{field}
+use Rattle.wire.specs.Numbers.{field, le, ofLe}
 use Rattle.wire.specs.Each.{Each, Bytes}
 use Rattle.wire.proofs.Each.{getD-each}
+use Rattle.wire.proofs.Numbers.{length-le, ofLe-le, le-ofLe}
 
 pub length-field : (s : List ℕ) (at w : ℕ) → length (field s at w) ≡ w
 unfolding field
@@ -46,3 +47,10 @@ pub field-bytes : (s : List ℕ) (at w : ℕ) → Bytes s → Bytes (field s at 
 unfolding field
 field-bytes s at zero h = tt
 field-bytes s at (suc w) h = (getD-each (λ b. b < 256) (omega arith) s h at, field-bytes s (at + 1) w h)
+
+-- a number written at a place reads back, and one that was read is written again
+pub number-at : (p r : List ℕ) (at w v : ℕ) → length p ≡ at → v < 256 ^ w → ofLe (field (p ++ (le w v ++ r)) at w) ≡ v
+number-at p r at w v ep h = ap ofLe (field-at p (le w v) r at w ep (length-le w v)) ∙ ofLe-le w v h
+
+pub number-again : (s : List ℕ) (at w : ℕ) → Bytes s → le w (ofLe (field s at w)) ≡ field s at w
+number-again s at w bytes = ap (λ (n : ℕ). le n (ofLe (field s at w))) (sym (length-field s at w)) ∙ le-ofLe (field s at w) (field-bytes s at w bytes)

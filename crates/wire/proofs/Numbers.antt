@@ -65,6 +65,10 @@ pub le-ofLe : (bs : List ℕ) → Bytes bs → le (length bs) (ofLe bs) ≡ bs
 unfolding le ofLe
 le-ofLe bs h = digits-number 256 (lit< tt) bs h
 
+pub ofLe-lt : (bs : List ℕ) → Bytes bs → ofLe bs < 256 ^ length bs
+unfolding ofLe
+ofLe-lt bs h = number-lt 256 (lit< tt) bs h
+
 pub length-be : (w v : ℕ) → length (be w v) ≡ w
 unfolding be
 length-be w v = length-reverse (digits 256 w v) ∙ length-digits 256 w v

@@ -1,6 +1,6 @@
 -- The law of refusals: the answer is n just where rule n holds and no earlier one does, and 0 just where none holds.
 -- Assumes nothing.
-use mathlib.Core.Path.{_≡_, refl, sym, ap, _∙_}
+use mathlib.Core.Path.{_≡_, refl, sym, ap, _∙_, subst}
 use mathlib.Core.Bool.{Bool, true, false}
 use mathlib.Core.List.{List, [], _∷_, _++_}
 use Prim.Native.Nat.{ℕ, zero, suc}
@@ -62,6 +62,10 @@ none-both ((n when b) ∷ rs) ss h k = (h .0, none-both rs ss (h .1) k)
 
 pub refusal-law : (rs : List Rule) → T (numbered rs) → FirstInOrder rs (first rs)
 refusal-law rs t = ((λ n. (is-first rs n, first-is rs (suc n))), none-first rs t, first-none rs)
+
+-- the same of the number that is told
+pub in-order : (rs : List Rule) (told : ℕ) → T (numbered rs) → first rs ≡ told → FirstInOrder rs told
+in-order rs told t e = subst (FirstInOrder rs) e (refusal-law rs t)
 
 -- ---- for the code, which asks one condition after another: r is what a function answered that tests b. `search (hit, skip) depth 12`
 -- proves from these what a `return` owes

@@ -6,7 +6,7 @@ use Prim.Native.Nat.{ℕ, zero, suc}
 use native.Mathlib.Omega.{arith}
 use lib.ListN.{length}
 use Rattle.wire.specs.Numbers.{over}
-use Rattle.wire.specs.Writes.{Writes, writeAnswer, writeOutput}
+use Rattle.wire.specs.Writes.{Writes, writeAnswer, writeOutput, toldWritten}
 use Rattle.wire.specs.declared.Written.{Written}
 use Rattle.wire.specs.declared.Written.the-variants.{Length, Refused}
 
@@ -41,3 +41,8 @@ wrote (suc n) bs out r out′ k w e =
     let same : Length k ≡ Refused (suc n) = sym e ∙ w .answer in
     let z : _≡_ {A = ℕ} 0 1 = cc in
     absurd (omega arith)
+
+-- the number that is told is that of the refusal
+pub told-written : (n : ℕ) (bs out : List ℕ) (r : Written) (out′ : List ℕ) → Writes n bs out r out′ → n ≡ toldWritten r .number
+told-written zero bs out r out′ w = ap (λ (x : Written). toldWritten x .number) (sym (w .answer))
+told-written (suc n) bs out r out′ w = ap (λ (x : Written). toldWritten x .number) (sym (w .answer))

@@ -1,10 +1,10 @@
--- `pulsar_request::judge::room` meets its contract.
+-- `pulsar_request::fields::room` meets its contract.
 -- Assumes nothing.
 use mathlib.Core.Path.{refl}
 use borrow.Author.Tests.{lt-ltb, le-ltb}
 use Rattle.wire.proofs.Refusal.{hit, skip}
-use Rattle.pulsar_request.proofs.judge.room.Statement.{statement}
-use Rattle.pulsar_request.proofs.judge.room.Tie as tie
+use Rattle.pulsar_request.proofs.fields.room.Statement.{statement}
+use Rattle.pulsar_request.proofs.fields.room.Tie as tie
 
 returns : tie.Need-returns
 returns c = hit _ _ _ _ refl (lt-ltb _ _ (c .if1 .taken))
