@@ -1,0 +1,32 @@
+-- Writing a card: field faults by their numbers, then 16. A reading that is an enum cannot have 54.
+-- Assumes nothing.
+use Prim.Native.Nat.{ℕ, _<_, _^_}
+use mathlib.Core.Bool.{Bool, _||_}
+use mathlib.Core.List.{List, [], _∷_}
+use lib.Dec.{eqb, ltb}
+use lib.ListN.{length}
+use Rattle.wire.specs.Refusal.{Rule, _when_}
+use Rattle.reading.specs.Reading.{bitsOf, kindOf, widthOf}
+use Rattle.reading.specs.declared.Reading.{Reading}
+use Rattle.card.specs.Reading.{badAddress, badTime}
+use Rattle.card.specs.declared.Card.{Card}
+
+-- 55 channel not 1..32
+abbrev pub badChannel : ℕ → Bool
+badChannel channel = eqb channel 0 || ltb 32 channel
+
+-- 16 output shorter than needed
+abbrev pub tooSmall : List ℕ → Bool
+tooSmall out = ltb (length out) 17
+
+abbrev pub writeRules : Card → List ℕ → List Rule
+writeRules c out =
+    52 when badAddress (c .address)
+    ∷ 53 when badTime (c .time)
+    ∷ 55 when badChannel (c .channel)
+    ∷ 16 when tooSmall out
+    ∷ []
+
+-- what the types of a reading's cases say: a 32-bit kind holds 32 bits, a 64-bit kind 64
+abbrev pub FitsKind : Reading → Type 0
+FitsKind r = bitsOf r < 256 ^ widthOf (kindOf r)
