@@ -3,11 +3,10 @@
 use mathlib.Core.Path.{_≡_, refl, sym, ap, ap₂, _∙_, subst}
 use mathlib.Core.List.{List, [], _∷_, _++_, append-assoc, append-nil}
 use Prim.Native.Nat.{ℕ, zero, suc, _+_, _*_, _^_, _≤_, _<_}
-use native.Mathlib.Nat.{add-zero, add-assoc}
+use native.Mathlib.Nat.{add-zero, add-assoc, le-of-eq}
 use native.Mathlib.Omega.{arith}
-use lib.ListN.{length, getD, take, drop, length-append}
-use lib.Seq.{take-all}
-use native.Mathlib.Nat.{le-of-eq}
+use lib.ListN.{length, getD, take, drop, length-append, List·getD-append}
+use lib.Seq.{take-all, take-append-le}
 use Rattle.wire.specs.Numbers.{number, field}
 use Rattle.wire.specs.Each.{Each, Bytes}
 use Rattle.wire.proofs.Each.{each-append}
@@ -36,6 +35,13 @@ value-of [] at k bs = refl
 value-of (w ∷ ws) at zero bs = ap (λ (n : ℕ). ofBits (field bs n w)) (sym (add-zero at))
 value-of (w ∷ ws) at (suc k) bs =
     value-of ws (at + w) k bs ∙ ap (λ (n : ℕ). ofBits (field bs n (getD ws k 0))) (add-assoc at w (total (take k ws)))
+
+-- fields that come after others leave those as they are
+pub unpacked-front : (ws xs s : List ℕ) (k : ℕ) → k < length ws → getD (unpacked (ws ++ xs) s) k 0 ≡ getD (unpacked ws s) k 0
+unpacked-front ws xs s k h =
+    value-of (ws ++ xs) 0 k (bitsOf s)
+    ∙ ap₂ (λ (l : List ℕ) (w : ℕ). ofBits (field (bitsOf s) (0 + total l) w)) (take-append-le k ws xs (omega arith)) (List·getD-append ws xs 0 k h)
+    ∙ sym (value-of ws 0 k (bitsOf s))
 
 -- each value fits its width
 values-fit : (ws : List ℕ) (at : ℕ) (bs : List ℕ) → Each Bit bs → Fit ws (valuesFrom ws at bs)

@@ -1,14 +1,13 @@
 -- The reading card: 17 bytes, most significant bit first.
 -- Assumes nothing.
-use Prim.Native.Nat.{ℕ, _+_, _-_, _<_, _^_}
+use Prim.Native.Nat.{ℕ, _+_, _-_}
 use mathlib.Core.List.{List, [], _∷_, _++_}
 use lib.ListN.{getD}
 use Rattle.bits.specs.Fields.{packed, unpacked}
-use Rattle.date.specs.Date.{dateBytes, dateOf}
+use Rattle.date.specs.Date.{dateBytes}
 use Rattle.date.specs.declared.DateTime.{DateTime}
-use Rattle.reading.specs.Reading.{numberOf, kindFrom, readingOf, bitsOf, kindOf, widthOf}
+use Rattle.reading.specs.Reading.{numberOf, kindFrom, readingOf, bitsOf, kindOf}
 use Rattle.reading.specs.declared.Kind.{Kind}
-use Rattle.reading.specs.declared.Reading.{Reading}
 use Rattle.card.specs.declared.Card.{Card}
 
 -- address 27, channel less one 5, year 7, month 4, day 5, hour 5, minute 6, second 6, kind 2, value bits 64; after these, spare 5
@@ -24,8 +23,8 @@ cardWidths = fieldWidths ++ (5 ∷ [])
 abbrev pub fields : Card → List ℕ
 fields c =
     c .address
-    ∷ c .channel - 1
-    ∷ dateBytes (c .time) ++ (numberOf (kindOf (c .value)) ∷ bitsOf (c .value) ∷ [])
+    ∷ (c .channel - 1)
+    ∷ (dateBytes (c .time) ++ (numberOf (kindOf (c .value)) ∷ bitsOf (c .value) ∷ []))
 
 -- and the spare bits, which are 0
 abbrev pub cardFields : Card → List ℕ
@@ -36,7 +35,7 @@ cardBytes c = packed 17 cardWidths (cardFields c)
 
 -- ---- what is read: the fields of given bytes, each by its name
 unfoldable pub fieldOf : ℕ → List ℕ → ℕ
-fieldOf k s = getD (unpacked cardWidths s) k 0
+fieldOf k s = getD (unpacked fieldWidths s) k 0
 
 abbrev pub addressOf : List ℕ → ℕ
 addressOf s = fieldOf 0 s
@@ -54,8 +53,8 @@ kindIn s = kindFrom (fieldOf 8 s)
 abbrev pub valueBits : List ℕ → ℕ
 valueBits s = fieldOf 9 s
 
-abbrev pub spareOf : List ℕ → ℕ
-spareOf s = fieldOf 10 s
+unfoldable pub spareOf : List ℕ → ℕ
+spareOf s = getD (unpacked cardWidths s) 10 0
 
-unfoldable pub cardOf : List ℕ → Card
+abbrev pub cardOf : List ℕ → Card
 cardOf s = record { address = addressOf s; channel = channelOf s; time = timeOf s; value = readingOf (kindIn s) (valueBits s) }

@@ -55,5 +55,5 @@ readCard s = cardAnswer (first (readRules s)) s
 
 -- address, channel, the six numbers of the time, kind, bits
 abbrev pub toldCardRead : CardRead → Told
-toldCardRead (R.Card c) = accepted (c .address ∷ c .channel ∷ dateBytes (c .time) ++ (numberOf (kindOf (c .value)) ∷ bitsOf (c .value) ∷ []))
+toldCardRead (R.Card c) = accepted (c .address ∷ c .channel ∷ (dateBytes (c .time) ++ (numberOf (kindOf (c .value)) ∷ bitsOf (c .value) ∷ [])))
 toldCardRead (R.Refused n) = refused n

@@ -1,19 +1,17 @@
+-- `card::small` meets its contract.
+-- Assumes nothing.
+use mathlib.Core.Path.{sym}
+use Rattle.card.proofs.Fields.{field-byte}
 use borrow.Author.Needs.{needs}
 use Rattle.card.proofs.small.Statement.{statement}
 use Rattle.card.proofs.small.Tie as tie
-use Rattle.card.proofs.small.Reads as reads
-use Rattle.card.proofs.small.Lts as lts
-use Rattle.card.proofs.field.Reads as field-reads
 
--- src/lib.rt:42:5
 field-requires : tie.Need-field-requires
 field-requires c κs = search needs
 
--- src/lib.rt:42:5
 cast-result : tie.Need-cast-result
-cast-result c = ?
+cast-result c = record { fits = rw (c .field .ensures) (field-byte _ _ (c .before .before .pre)) }
 
--- src/lib.rt:38:1
 returns : tie.Need-returns
 returns c = search needs
 
