@@ -1,2 +1,6 @@
 pub mod Fields
 pub mod Answers
+pub mod Parts
+pub mod RoundTrip
+pub mod Unique
+pub mod Order
