@@ -62,19 +62,40 @@ module _ (c : Card) (out : List ℕ) (fits : FitsKind (c .value)) (good : first 
   fit =
       let n = address-most (c .address) (none .0) in
       let w = channel-within (c .channel) (none .1 .1 .0) in
-      let r = ranges in
-      (omega arith,
-      (omega arith,
-      (omega (arith, r .year),
-      (omega (arith, r .month),
-      (omega (arith, r .day),
-      (omega (arith, r .hour),
-      (omega (arith, r .minute),
-      (omega (arith, r .second),
-      (number-below (kindOf (c .value)),
-      (fits-64 (c .value) fits,
-      (omega arith,
-      tt)))))))))))
+      let r = ranges in (
+        omega arith,
+        (
+          omega arith,
+          (
+            omega (arith, r .year),
+            (
+              omega (arith, r .month),
+              (
+                omega (arith, r .day),
+                (
+                  omega (arith, r .hour),
+                  (
+                    omega (arith, r .minute),
+                    (
+                      omega (arith, r .second),
+                      (
+                        number-below (kindOf (c .value)),
+                        (
+                          fits-64 (c .value) fits,
+                          (
+                            omega arith,
+                            tt,
+                          ),
+                        ),
+                      ),
+                    ),
+                  ),
+                ),
+              ),
+            ),
+          ),
+        ),
+      )
 
   -- each field as it was
   back : unpacked cardWidths (cardBytes c) ≡ cardFields c
@@ -118,13 +139,22 @@ module _ (c : Card) (out : List ℕ) (fits : FitsKind (c .value)) (good : first 
       (ap₂ readingOf kind-back bits-back ∙ made-again (c .value) fits)
 
   accepted : NoneHolds (readRules (cardBytes c))
-  accepted =
-      (ap not (eq-eqb (length (cardBytes c)) 17 (length-card c)),
-      (ap not (eq-eqb (spareOf (cardBytes c)) 0 spare-back),
-      (ap badAddress (field-back 0 (lit< tt)) ∙ none .0,
-      (ap badTime time-back ∙ none .1 .0,
-      (ap₂ upperHalfSet kind-back bits-back ∙ fits-no-upper (c .value) fits,
-      tt)))))
+  accepted = (
+    ap not (eq-eqb (length (cardBytes c)) 17 (length-card c)),
+    (
+      ap not (eq-eqb (spareOf (cardBytes c)) 0 spare-back),
+      (
+        ap badAddress (field-back 0 (lit< tt)) ∙ none .0,
+        (
+          ap badTime time-back ∙ none .1 .0,
+          (
+            ap₂ upperHalfSet kind-back bits-back ∙ fits-no-upper (c .value) fits,
+            tt,
+          ),
+        ),
+      ),
+    ),
+  )
 
   pub card-reads-back : readCard (cardBytes c) ≡ R.Card c
   unfolding readCard

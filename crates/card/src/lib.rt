@@ -194,7 +194,11 @@ fn wide(b: u8) -> u64
 fn less_one(channel: u8) -> u64
     ensures { λ r. ⌜ r ≡ channel - 1 ⌝ }
 {
-    if channel == 0 { 0 } else { (channel - 1) as u64 }
+    if channel == 0 {
+        0
+    } else {
+        (channel - 1) as u64
+    }
 }
 
 fn put_card(card: Card, out: &mut [u8])
