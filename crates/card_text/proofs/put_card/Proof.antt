@@ -1,0 +1,77 @@
+-- `card_text::put_card` meets its contract.
+-- Assumes nothing.
+use mathlib.Core.Path.{ap, _∙_}
+use Rattle.reading.specs.Reading.{numberOf}
+use Rattle.card_text.proofs.Text.{stored-then, stored-as}
+use Rattle.card_text.proofs.Line.{card-text}
+use borrow.Author.Needs.{needs}
+use Rattle.card_text.proofs.put_card.Statement.{statement}
+use Rattle.card_text.proofs.put_card.Tie as tie
+
+cast-put-field : tie.Need-cast-put-field
+cast-put-field c = search needs
+
+put-field-requires : tie.Need-put-field-requires
+put-field-requires c κs = search needs
+
+plain-width-requires : tie.Need-plain-width-requires
+plain-width-requires c κs = search needs
+
+wide-requires : tie.Need-wide-requires
+wide-requires c κs = search needs
+
+put-field-requires-2 : tie.Need-put-field-requires-2
+put-field-requires-2 c κs = search needs
+
+put-time-requires : tie.Need-put-time-requires
+put-time-requires c κs = search needs
+
+kind-of-requires : tie.Need-kind-of-requires
+kind-of-requires c κs = search needs
+
+number-of-requires : tie.Need-number-of-requires
+number-of-requires c κs = search needs
+
+wide-requires-2 : tie.Need-wide-requires-2
+wide-requires-2 c κs = search needs
+
+put-field-requires-3 : tie.Need-put-field-requires-3
+put-field-requires-3 c κs = search needs
+
+bits-requires : tie.Need-bits-requires
+bits-requires c κs = search needs
+
+put-field-requires-4 : tie.Need-put-field-requires-4
+put-field-requires-4 c κs = search needs
+
+same-length : tie.Need-same-length
+same-length c = search needs
+
+returns : tie.Need-returns
+returns c = 
+    let kind = c .before .before .before .before .before .before .before .before .wide2 .ensures ∙ c .before .before .before .before .before .before .before .before .before .number-of .ensures ∙ ap numberOf (c .before .before .before .before .before .before .before .before .before .before .kind-of .ensures) in
+    stored-as _ _ _ _ _ _ (card-text _ _ _ _ _ (c .before .before .before .before .before .before .before .before .before .before .before .before .before .before .before .before .before .before .before .before .plain-width .ensures .0) (c .before .before .before .before .before .before .before .before .before .before .before .before .before .before .before .before .before .before .before .wide .ensures) kind (c .before .before .before .bits .ensures))
+    (stored-then _ _ _ _ _ _ _ _ _ (stored-then _ _ _ _ _ _ _ _ _ (stored-then _ _ _ _ _ _ _ _ _ (stored-then _ _ _ _ _ _ _ _ _ (c .before .before .before .before .before .before .before .before .before .before .before .before .before .before .before .before .before .before .before .before .before .before .before .before .put-field .ensures .0)
+    (c .before .before .before .before .before .before .before .before .before .before .before .before .before .before .before .before .before .before .put-field2 .ensures .0))
+    (c .before .before .before .before .before .before .before .before .before .before .before .before .before .before .put-time .ensures .0))
+    (c .before .before .before .before .before .before .before .put-field3 .ensures .0))
+    (c .before .before .put-field4 .ensures .0))
+
+pub put-card-spec : {M : Type 1} → statement M
+put-card-spec =
+    tie.close
+    (tie.spec
+    cast-put-field
+    put-field-requires
+    plain-width-requires
+    wide-requires
+    put-field-requires-2
+    put-time-requires
+    kind-of-requires
+    number-of-requires
+    wide-requires-2
+    put-field-requires-3
+    bits-requires
+    put-field-requires-4
+    same-length
+    returns)

@@ -1,0 +1,91 @@
+-- `card_text::put_time` meets its contract.
+-- Assumes nothing.
+use mathlib.Core.Path.{ap, _∙_}
+use mathlib.Core.List.{_++_}
+use native.Mathlib.Omega.{arith}
+use lib.ListN.{length}
+use lib.Seq.{length-sets}
+use Rattle.card_text.specs.Text.{ascii, Stored}
+use Rattle.card_text.specs.Line.{timeText}
+use Rattle.card_text.proofs.Text.{stored-then, stored-as}
+use Rattle.card_text.proofs.Line.{time-text}
+use borrow.Author.Needs.{needs}
+use Rattle.card_text.proofs.put_time.Statement.{statement}
+use Rattle.card_text.proofs.put_time.Tie as tie
+
+wide-requires : tie.Need-wide-requires
+wide-requires c κs = search needs
+
+add-put-field : tie.Need-add-put-field
+add-put-field c = search needs
+
+put-field-requires : tie.Need-put-field-requires
+put-field-requires c κs = search needs
+
+wide-requires-2 : tie.Need-wide-requires-2
+wide-requires-2 c κs = search needs
+
+put-field-requires-2 : tie.Need-put-field-requires-2
+put-field-requires-2 c κs = search needs
+
+wide-requires-3 : tie.Need-wide-requires-3
+wide-requires-3 c κs = search needs
+
+put-field-requires-3 : tie.Need-put-field-requires-3
+put-field-requires-3 c κs = search needs
+
+wide-requires-4 : tie.Need-wide-requires-4
+wide-requires-4 c κs = search needs
+
+put-field-requires-4 : tie.Need-put-field-requires-4
+put-field-requires-4 c κs = search needs
+
+wide-requires-5 : tie.Need-wide-requires-5
+wide-requires-5 c κs = search needs
+
+put-field-requires-5 : tie.Need-put-field-requires-5
+put-field-requires-5 c κs = search needs
+
+wide-requires-6 : tie.Need-wide-requires-6
+wide-requires-6 c κs = search needs
+
+put-field-requires-6 : tie.Need-put-field-requires-6
+put-field-requires-6 c κs = (omega (arith, c .before .before .before .before .before .before .before .before .before .before .before .before .before .before .before .before .before .before .before .before .before .before .before .before .before .before .before .before .pre, c .before .before .before .before .put-field5 .ensures .1, c .before .before .before .before .before .before .before .before .before .put-field4 .ensures .1, c .before .before .before .before .before .before .before .before .before .before .before .before .before .before .put-field3 .ensures .1, c .before .before .before .before .before .before .before .before .before .before .before .before .before .before .before .before .before .before .before .put-field2 .ensures .1, c .before .before .before .before .before .before .before .before .before .before .before .before .before .before .before .before .before .before .before .before .before .before .before .before .put-field .ensures .1), omega arith, omega arith, omega arith)
+
+-- the whole text, piece after piece
+whole : (c : tie.After-slice-known7)
+    → Stored (c .before .before .before .before .before .before .before .before .before .before .before .before .before .before .before .before .before .before .before .before .before .before .before .before .before .before .before .before .before .before .before .args .out .now) (c .before .before .before .before .before .before .before .before .before .before .before .before .before .before .before .before .before .before .before .before .before .before .before .before .before .before .before .before .before .before .before .args .at) (timeText (c .before .before .before .before .before .before .before .before .before .before .before .before .before .before .before .before .before .before .before .before .before .before .before .before .before .before .before .before .before .before .before .args .time) ++ ascii ";") (c .before .before .put-field6 .last .0) (c .before .before .put-field6 .result)
+whole c =
+    stored-as _ _ _ _ _ _ (time-text (c .before .before .before .before .before .before .before .before .before .before .before .before .before .before .before .before .before .before .before .before .before .before .before .before .before .before .before .before .before .before .before .args .time) _ _ _ _ _ _ (c .before .before .before .before .before .before .before .before .before .before .before .before .before .before .before .before .before .before .before .before .before .before .before .before .before .before .before .before .wide .ensures) (c .before .before .before .before .before .before .before .before .before .before .before .before .before .before .before .before .before .before .before .before .before .before .before .wide2 .ensures) (c .before .before .before .before .before .before .before .before .before .before .before .before .before .before .before .before .before .before .wide3 .ensures) (c .before .before .before .before .before .before .before .before .before .before .before .before .before .wide4 .ensures) (c .before .before .before .before .before .before .before .before .wide5 .ensures) (c .before .before .before .wide6 .ensures))
+    (stored-then _ _ _ _ _ _ _ _ _ (stored-then _ _ _ _ _ _ _ _ _ (stored-then _ _ _ _ _ _ _ _ _ (stored-then _ _ _ _ _ _ _ _ _ (stored-then _ _ _ _ _ _ _ _ _ (c .before .before .before .before .before .before .before .before .before .before .before .before .before .before .before .before .before .before .before .before .before .before .before .before .before .before .before .put-field .ensures .0)
+    (c .before .before .before .before .before .before .before .before .before .before .before .before .before .before .before .before .before .before .before .before .before .before .put-field2 .ensures .0))
+    (c .before .before .before .before .before .before .before .before .before .before .before .before .before .before .before .before .before .put-field3 .ensures .0))
+    (c .before .before .before .before .before .before .before .before .before .before .before .before .put-field4 .ensures .0))
+    (c .before .before .before .before .before .before .before .put-field5 .ensures .0))
+    (c .before .before .put-field6 .ensures .0))
+
+same-length : tie.Need-same-length
+same-length c = ap length (whole c .output) ∙ simp length-sets
+
+returns : tie.Need-returns
+returns c = (whole c, omega (arith, c .before .before .before .before .before .before .before .before .before .before .before .before .before .before .before .before .before .before .before .before .before .before .before .before .before .before .before .put-field .ensures .1, c .before .before .before .before .before .before .before .before .before .before .before .before .before .before .before .before .before .before .before .before .before .before .put-field2 .ensures .1, c .before .before .before .before .before .before .before .before .before .before .before .before .before .before .before .before .before .put-field3 .ensures .1, c .before .before .before .before .before .before .before .before .before .before .before .before .put-field4 .ensures .1, c .before .before .before .before .before .before .before .put-field5 .ensures .1, c .before .before .put-field6 .ensures .1))
+
+pub put-time-spec : {M : Type 1} → statement M
+put-time-spec =
+    tie.close
+    (tie.spec
+    wide-requires
+    add-put-field
+    put-field-requires
+    wide-requires-2
+    put-field-requires-2
+    wide-requires-3
+    put-field-requires-3
+    wide-requires-4
+    put-field-requires-4
+    wide-requires-5
+    put-field-requires-5
+    wide-requires-6
+    put-field-requires-6
+    same-length
+    returns)
