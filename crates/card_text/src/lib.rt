@@ -82,9 +82,23 @@ fn put_card(out: &mut [u8], card: Card) -> usize
     let time = card.time;
     let value = card.value;
     let channel = put_field(out, 0, 10, 8, card.address as u64, b';');
-    let start = put_field(out, channel, 10, plain_width(card.channel), wide(card.channel), b';');
+    let start = put_field(
+        out,
+        channel,
+        10,
+        plain_width(card.channel),
+        wide(card.channel),
+        b';',
+    );
     let kind = put_time(out, start, time);
-    let bits = put_field(out, kind, 10, 1, wide(reading::number_of(reading::kind_of(value))), b';');
+    let bits = put_field(
+        out,
+        kind,
+        10,
+        1,
+        wide(reading::number_of(reading::kind_of(value))),
+        b';',
+    );
     put_field(out, bits, 16, 16, reading::bits(value), b'\n')
 }
 
@@ -159,7 +173,11 @@ fn add_line(out: &mut [u8], at: usize, read: CardRead) -> usize
 fn card_count(cards: &[u8]) -> usize
     ensures { λ r. ⌜ r ≡ cardCount (now (cards .entry)) ⌝ }
 {
-    if cards.len() % 17 == 0 { cards.len() / 17 } else { cards.len() / 17 + 1 }
+    if cards.len() % 17 == 0 {
+        cards.len() / 17
+    } else {
+        cards.len() / 17 + 1
+    }
 }
 
 // What stands for the card with i cards before it.

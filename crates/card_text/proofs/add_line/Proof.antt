@@ -27,7 +27,7 @@ same-length : tie.Need-same-length
 same-length c = search needs
 
 returns : tie.Need-returns
-returns c = 
+returns c =
     let a = c .before .before .before .before .before .before .before .before .before .before .args in
     let line = c .before .before .before .before .before .before .before .make-line .ensures in
     (c .before .before .put-all .ensures ∙ ap (sets (a .out .now) (a .at)) (c .before .before .before .front .ensures ∙ line-front (c .before .before .before .before .before .before .before .before .before .before .args .read) _ _ _ refl line), line .place ∙ zero-add _)

@@ -40,17 +40,18 @@ loop-less : tie.Need-loop-less Inv-loop μ-loop
 loop-less c = omega arith
 
 loop-again : tie.Need-loop-again Inv-loop μ-loop
-loop-again c = 
-    let at-loop = c .before .before .before .before .before .before .loop in
-    (omega arith,
-    stored-next _ _ _ _ _ _ (at-loop .inv .1) (c .before .before .before .before .before .loop-test .taken) _ (c .before .before .add-line .ensures .1 ∙ ap (λ (r : CardRead). length (lineOf r)) (c .before .before .before .read-at .ensures))
-    _ (c .before .before .add-line .ensures .0 ∙ ap (λ (r : CardRead). sets (at-loop .out) (at-loop .at) (lineOf r)) (c .before .before .before .read-at .ensures)))
+loop-again c =
+    let at-loop = c .before .before .before .before .before .before .loop in (
+      omega arith,
+      stored-next _ _ _ _ _ _ (at-loop .inv .1) (c .before .before .before .before .before .loop-test .taken) _ (c .before .before .add-line .ensures .1 ∙ ap (λ (r : CardRead). length (lineOf r)) (c .before .before .before .read-at .ensures))
+          _ (c .before .before .add-line .ensures .0 ∙ ap (λ (r : CardRead). sets (at-loop .out) (at-loop .at) (lineOf r)) (c .before .before .before .read-at .ensures)),
+    )
 
 same-length : tie.Need-same-length Inv-loop μ-loop
 same-length c = ap length (c .before .loop .inv .1 .output) ∙ simp length-sets
 
 returns : tie.Need-returns Inv-loop μ-loop
-returns c = 
+returns c =
     let a = c .before .before .before .before .args in
     let done : c .before .loop .i ≡ a .n = omega arith in
     stored-as _ _ _ _ _ _ (ap (λ (k : ℕ). linesOf k (a .cards .now)) done) (c .before .loop .inv .1)

@@ -29,7 +29,7 @@ same-length c = search needs
 
 returns : tie.Need-returns
 unfolding ascii
-returns c = 
+returns c =
     stored-as _ _ _ _ _ _ (refused-text _ _ _ (c .before .before .before .before .plain-width .ensures .0) (c .before .before .before .wide .ensures))
     (stored-then _ _ _ _ _ _ (ascii "refused ") (numeral 10 _ _) (10 ∷ []) (record { output = c .before .before .before .before .before .before .before .before .put-all .ensures; place = refl }) (c .before .before .put-field .ensures .0))
 

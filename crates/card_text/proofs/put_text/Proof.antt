@@ -24,7 +24,7 @@ same-length-2 : tie.Need-same-length-2
 same-length-2 c = search needs
 
 returns-2 : tie.Need-returns-2
-returns-2 c = 
+returns-2 c =
     let judged = c .before .before .before .before in
     writes-all _ _ _ _ _ (skip _ _ _ _ _ (judged .before .too-small .ensures) (judged .if1 .left) refl) refl
     (c .before .before .put-all .ensures ∙ text-over _ _ _ (judged .before .too-small .ensures) (judged .if1 .left))
