@@ -1,0 +1,82 @@
+// Answers each case of standard input with a line. tests/reference/CASES.md says how a case and a line are written.
+mod envelope;
+mod files;
+mod ground;
+mod readings;
+mod requests;
+mod say;
+
+use wire::byte_at;
+use wire::front;
+use wire::le16_at;
+use wire::le64_at;
+use wire::rest;
+
+// A number that counts bytes, places or the like.
+fn size_at(numbers: &[u8], at: usize) -> usize {
+    le64_at(numbers, at) as usize
+}
+
+// Answers a case: an act, its numbers of eight bytes each, and its byte strings. False where there is no such act.
+fn answer(act: u8, numbers: &[u8], bytes: &[u8], out: &mut [u8]) -> bool {
+    match act {
+        1..=3 => ground::answer(act, numbers, bytes),
+        4..=7 => readings::answer(act, numbers, bytes),
+        20 | 22 => requests::answer(act, numbers, bytes, out),
+        30..=33 => envelope::answer(act, numbers, bytes, out),
+        40..=42 => files::answer(act, numbers, bytes, out),
+        _ => false,
+    }
+}
+
+// Fills the first n bytes of a buffer, and answers whether they all came.
+fn read_part(buffer: &mut [u8], n: usize) -> bool {
+    if n <= buffer.len() {
+        io::read_full(libc::STDIN_FILENO, &mut buffer[..n]) == n
+    } else {
+        false
+    }
+}
+
+// Answers a case whose second byte string, which its call may change, is the first n bytes of a buffer.
+fn answer_into(act: u8, numbers: &[u8], bytes: &[u8], buffer: &mut [u8], n: usize) -> bool {
+    if n <= buffer.len() {
+        answer(act, numbers, bytes, &mut buffer[..n])
+    } else {
+        false
+    }
+}
+
+// Reads one case and answers it. False where the input has ended.
+fn answer_one() -> bool {
+    let mut head = [0u8; 6];
+    if !read_part(&mut head, 6) {
+        return false;
+    }
+    let n = byte_at(&head, 1) as usize * 8;
+    let m = n + le16_at(&head, 2) as usize;
+    let mut of = io::buffer();
+    if !read_part(&mut of, m) {
+        return false;
+    }
+    let k = le16_at(&head, 4) as usize;
+    let mut out = io::buffer();
+    if !read_part(&mut out, k) {
+        return false;
+    }
+    answer_into(
+        byte_at(&head, 0),
+        front(&of, n),
+        rest(front(&of, m), n),
+        &mut out,
+        k,
+    )
+}
+
+// A proved loop has to end, and nothing says that the input does. So the loop counts its turns down from a number that no run uses up.
+fn main() {
+    let mut turns = u64::MAX;
+    while turns > 0 && answer_one() {
+        turns -= 1;
+    }
+}

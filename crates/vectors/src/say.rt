@@ -1,0 +1,74 @@
+// An answer's line: numbers in decimal, then a byte string in hexadecimal. A line is one write; the answer is false where that fails.
+use wire::Written;
+
+// Adds a text to the first `at` bytes of a line, if it fits. Answers how long the line is then.
+fn text(line: &mut [u8], at: usize, t: &[u8]) -> usize {
+    if at <= line.len() {
+        if t.len() <= line.len() - at {
+            wire::put_all(line, at, t);
+            return at + t.len();
+        }
+    }
+    at
+}
+
+// Numbers, each with a blank after it.
+fn decimal(line: &mut [u8], words: &[u64]) -> usize {
+    let mut n = 0;
+    let mut i = 0;
+    while i < words.len() {
+        let mut digits = [0u8; 20];
+        let k = io::decimal(words[i], &mut digits);
+        n = text(line, n, &digits[..k]);
+        n = text(line, n, b" ");
+        i += 1;
+    }
+    n
+}
+
+// The upper-case hexadecimal digit of the low half of a byte.
+fn digit(b: u8) -> u8 {
+    let d = b % 16;
+    if d < 10 { b'0' + d } else { b'A' - 10 + d }
+}
+
+// A byte string, - where it is empty.
+fn hexadecimal(line: &mut [u8], at: usize, s: &[u8]) -> usize {
+    if s.len() == 0 {
+        return text(line, at, b"-");
+    }
+    let mut n = at;
+    let mut i = 0;
+    while i < s.len() {
+        let pair = [digit(s[i] / 16), digit(s[i])];
+        n = text(line, n, &pair);
+        i += 1;
+    }
+    n
+}
+
+pub fn line(words: &[u64], bytes: &[u8]) -> bool {
+    let mut line = io::buffer();
+    let n = decimal(&mut line, words);
+    let m = hexadecimal(&mut line, n, bytes);
+    let k = text(&mut line, m, b"\n");
+    io::write_all(libc::STDOUT_FILENO, wire::front(&line, k))
+}
+
+// Numbers alone.
+pub fn numbers(words: &[u64]) -> bool {
+    line(words, b"")
+}
+
+// The paper's number alone.
+pub fn refused(n: u8) -> bool {
+    line(&[n as u64], b"")
+}
+
+// A writer's answer, and the whole of its output.
+pub fn written(w: Written, out: &[u8]) -> bool {
+    match w {
+        Written::Length(n) => line(&[0, n as u64], out),
+        Written::Refused(n) => line(&[n as u64], out),
+    }
+}

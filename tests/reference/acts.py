@@ -1,0 +1,191 @@
+"""The acts of CASES.md: what each answers, as the words of its line, and which refusal numbers it can give."""
+import card
+import modbus
+import pulsar_body
+import pulsar_frame
+import pulsar_line
+import readings
+import sm160
+from crc import crc16
+from dates import NO_DATE, is_date
+
+
+def told(refusal, *values):
+    """The number, and where accepted the values."""
+    return [refusal] if refusal else [0, *values]
+
+
+def reader(function):
+    """A reader's answer is (number, fields or None)."""
+    def answer(numbers, strings):
+        refusal, fields = function(*numbers, *strings)
+        return told(refusal, *(fields or ()))
+    return answer
+
+
+def writer(function):
+    """A writer's answer is (number, length, output)."""
+    def answer(numbers, strings):
+        refusal, length, output = function(*numbers, *strings)
+        return told(refusal, length) + [output]
+    return answer
+
+
+def checksum_from(numbers, strings):
+    return told(0, crc16(strings[0], start=numbers[0]))
+
+
+def checksum(numbers, strings):
+    return told(0, crc16(strings[0]))
+
+
+def date(numbers, strings):
+    return told(0, int(is_date(strings[0])))
+
+
+def first_absent(numbers, strings):
+    refusal, place = readings.first_absent(*numbers, *strings)
+    return told(refusal, place)
+
+
+def channel_of(numbers, strings):
+    mask, place = numbers
+    return told(0, readings.channel_of(mask, place), len(readings.channels(mask)))
+
+
+def collect(numbers, strings):
+    state = pulsar_line.fresh()
+    for byte in strings[0]:
+        _, state = pulsar_line.push(state, byte)
+    refusal, (handed, _) = pulsar_line.silence(state)
+    return told(refusal, len(handed), handed)
+
+
+def lent_collector(numbers, strings):
+    count, byte = numbers
+    lent = (pulsar_line.fresh()[0], count)
+    refusal, pushed = pulsar_line.push(lent, byte)
+    words = told(refusal, pushed and pushed[1])
+    refusal, handed = pulsar_line.silence(lent)
+    return words + told(refusal, handed and len(handed[0]))
+
+
+REQUEST_WORDS = {
+    0x01: ("mask",),
+    0x02: ("mask", "values"),
+    0x04: (),
+    0x05: ("date",),
+    0x06: ("mask", "type", "first", "last"),
+    0x0A: ("index",),
+    0x0B: ("index", "values"),
+}
+REPLY_WORDS = {
+    0x00: ("error",),
+    0x01: ("values",),
+    0x02: ("mask",),
+    0x04: ("date",),
+    0x05: ("status",),
+    0x06: ("mask", "date", "values"),
+    0x0A: ("values",),
+    0x0B: (),
+}
+
+
+def body_words(names, fields):
+    for name in names:
+        if name in ("date", "first", "last"):
+            yield from fields[name]
+        else:
+            yield fields[name]
+
+
+def read_request_body(numbers, strings):
+    refusal, fields = pulsar_body.read_request(*numbers, *strings)
+    if refusal:
+        return told(refusal)
+    return told(0, numbers[0], *body_words(REQUEST_WORDS[numbers[0]], fields))
+
+
+def read_reply_body(numbers, strings):
+    function = numbers[0]
+    refusal, fields = pulsar_body.read_reply(*numbers, *strings)
+    if refusal:
+        return told(refusal)
+    if function == 0x04:
+        return told(0, 4, 0) if fields["date"] == NO_DATE else told(0, 4, 1, *fields["date"])
+    return told(0, function, *body_words(REPLY_WORDS[function], fields))
+
+
+def six(number):
+    """A date that is given as one number."""
+    return number.to_bytes(6, "little")
+
+
+def write_request_body(numbers, strings):
+    function, width, mask, kind, index, first, last = numbers
+    values, output = strings
+    fields = {"mask": mask, "type": kind, "index": index, "date": six(first), "first": six(first), "last": six(last),
+              "values": values}
+    refusal, length, output = pulsar_body.write_request(function, width, fields, output)
+    return told(refusal, length) + [output]
+
+
+def write_reply_body(numbers, strings):
+    function, width, mask, status, error, date = numbers
+    values, output = strings
+    fields = {"mask": mask, "status": status, "error": error, "date": six(date), "values": values}
+    refusal, length, output = pulsar_body.write_reply(function, width, fields, output)
+    return told(refusal, length) + [output]
+
+
+def send(numbers, strings):
+    session, largest, place = numbers
+    file, output = strings
+    refusal, length, after, output = sm160.send(file, session, largest, place, output)
+    return told(refusal, length, after) + [output]
+
+
+def receive(numbers, strings):
+    session, under_way, count = numbers
+    refusal, answer, (session, under_way, count), buffer = sm160.receive((session, under_way != 0, count), *strings)
+    words = told(refusal) if refusal else told(0, int(answer[0]), answer[1])
+    return words + [session, int(under_way), count, buffer]
+
+
+def write_card(numbers, strings):
+    address, channel, date, kind, bits = numbers
+    _, output = strings
+    refusal, length, output = card.write_card(address, channel, six(date), kind, bits, output)
+    return told(refusal, length) + [output]
+
+
+# act: name, the refusal numbers that it can give, its answer
+ACTS = {
+    1: ("checksum_from", [], checksum_from),
+    2: ("checksum", [], checksum),
+    3: ("is_date", [], date),
+    4: ("value_at", [1, 11], reader(readings.value_at)),
+    5: ("read_value", [11], reader(readings.read_value)),
+    6: ("first_absent", [1, 11], first_absent),
+    7: ("channel_of", [], channel_of),
+    10: ("read_at_meter", [1, 2, 3, 4, 5, 6, 7], reader(pulsar_frame.read_at_meter)),
+    11: ("read_at_master", [1, 2, 3, 6, 7, 4, 5, 8], reader(pulsar_frame.read_at_master)),
+    12: ("write_request", [1, 17, 16], writer(pulsar_frame.write_request)),
+    13: ("write_reply", [1, 17, 16], writer(pulsar_frame.write_reply)),
+    14: ("collect", [], collect),
+    15: ("lent collector", [20], lent_collector),
+    20: ("read_request", [1, 10, 11, 12, 14, 13], read_request_body),
+    21: ("read_reply", [1, 10, 11, 12, 13, 15], read_reply_body),
+    22: ("write_request_body", [1, 11, 12, 13, 17, 16], write_request_body),
+    23: ("write_reply_body", [1, 11, 12, 13, 15, 17, 16], write_reply_body),
+    30: ("read_rtu", [40, 41, 44], reader(modbus.read_rtu)),
+    31: ("write_rtu", [17, 16], writer(modbus.write_rtu)),
+    32: ("read_tcp", [40, 41, 42, 43], reader(modbus.read_tcp)),
+    33: ("write_tcp", [17, 16], writer(modbus.write_tcp)),
+    40: ("SM160 read_frame", [21, 22, 23, 24, 25], reader(sm160.read_frame)),
+    41: ("SM160 write_frame", [23, 25, 16], writer(sm160.write_frame)),
+    42: ("send", [32, 33, 34, 16], send),
+    43: ("receive", [20, 21, 22, 23, 24, 25, 26, 27, 28, 29, 30, 31], receive),
+    50: ("read_card", [50, 51, 52, 53, 54], reader(card.read_card)),
+    51: ("write_card", [52, 53, 55, 16], write_card),
+}

@@ -1,0 +1,137 @@
+"""Cases for the checksum, dates and readings (acts 1 to 7)."""
+from crc import crc16, low_byte_first
+from dates import RANGES
+
+WIDEST = 2 ** 64 - 1
+MESSAGES = [b"", b"\x00", b"\xFF", b"123456789", bytes(16), b"\xFF" * 16, bytes(range(256))]
+
+
+def checksum_from(rng):
+    for start in (0x0000, 0x0001, 0x8000, 0xA001, 0xFFFE, 0xFFFF):
+        for message in MESSAGES:
+            yield [start], [message], 0
+    for bit in range(16):
+        yield [1 << bit], [b"\x5A"], 0
+    for length in (1, 2, 3, 5, 8, 13, 21, 34):
+        message = rng.randbytes(length)
+        for cut in (0, length // 2, length):
+            yield [crc16(message[:cut])], [message[cut:]], 0
+    for _ in range(20):
+        yield [rng.randrange(65536)], [rng.randbytes(rng.randrange(24))], 0
+
+
+def checksum(rng):
+    for message in MESSAGES:
+        yield [], [message], 0
+    for byte in range(256):
+        yield [], [bytes([byte])], 0
+    for _ in range(20):
+        message = rng.randbytes(rng.randrange(24))
+        yield [], [message], 0
+        yield [], [message + low_byte_first(crc16(message))], 0
+
+
+GOOD_DATE = bytes([23, 2, 28, 12, 30, 30])
+
+
+def edge_dates():
+    """A good date with one field at each edge and beyond."""
+    for at, (_, lowest, highest) in enumerate(RANGES):
+        for field in {0, lowest, highest, highest + 1, 127, 128, 255} | ({lowest - 1} if lowest else set()):
+            yield GOOD_DATE[:at] + bytes([field]) + GOOD_DATE[at + 1:]
+    for rest in (bytes([0, 2, 29]), bytes([1, 2, 29]), bytes([23, 2, 30]), bytes([23, 2, 31]), bytes([23, 4, 31]), bytes([99, 12, 31])):
+        yield rest + bytes([23, 59, 59])
+    yield b"\xFF" * 6
+    for at in range(6):
+        yield b"\xFF" * at + b"\x0C" + b"\xFF" * (5 - at)
+    yield bytes(6)
+    yield bytes([0, 1, 1, 0, 0, 0])
+
+
+def random_date(rng):
+    return bytes(rng.randint(lowest, highest) for _, lowest, highest in RANGES)
+
+
+def dates(rng):
+    for date in edge_dates():
+        yield [], [date], 0
+    for _ in range(30):
+        yield [], [random_date(rng)], 0
+    for _ in range(20):
+        date = bytearray(random_date(rng))
+        date[rng.randrange(6)] = rng.randrange(256)
+        yield [], [bytes(date)], 0
+
+
+# Bits that a comparison of floats would mistake: NaNs, the infinities, both zeros, all bits set, all but one.
+VALUES_4 = [bytes.fromhex(v) for v in ("FFFFFFFF", "FFFFFF7F", "0000C07F", "0100807F", "0000C0FF", "0000807F", "00000000", "00000080", "FEFFFFFF", "78563412")]
+VALUES_8 = [bytes.fromhex(v) for v in ("FFFFFFFFFFFFFFFF", "FFFFFFFFFFFFFF7F", "000000000000F87F", "010000000000F07F", "000000000000F8FF",
+                                       "0000000000000000", "0000000000000080", "FEFFFFFFFFFFFFFF", "FFFFFFFF00000000", "00000000FFFFFFFF", "EFCDAB8967452301")]
+WIDTHS = [0, 1, 2, 3, 5, 6, 7, 9, 12, 16, 255, 2 ** 32 + 4, 2 ** 63 + 8, WIDEST]
+
+
+def value_at(rng):
+    values = b"".join(VALUES_4[:4])
+    for kind in range(4):
+        width = 8 if kind % 2 else 4
+        count = len(values) // width
+        for place in (0, 1, 2, count - 1, count, count + 1, 2 ** 32 + 1, 2 ** 61 + 1, 2 ** 62 + 1, 2 ** 63 + 1, WIDEST):
+            yield [width, kind, place], [values], 0 if 1 <= place <= count else 11
+        yield [12 - width, kind, 1], [values], 11
+        yield [width, kind, 1], [b""], 11
+        for length in (1, width - 1, width, width + 1, 15, 17):
+            yield [width, kind, 1], [values[:length] + b"\x01" * (length - 16)], 0 if length == width else 11
+        for bad in WIDTHS:
+            yield [bad, kind, 1], [values], 1
+        yield [5, kind, 0], [values[:7]], 1
+        for value in VALUES_8 if kind % 2 else VALUES_4:
+            yield [width, kind, 2], [values[:width] + value + b"\xFF" * width], 0
+
+
+def read_value(rng):
+    for kind in range(4):
+        width = 8 if kind % 2 else 4
+        for length in range(18):
+            yield [kind], [b"\xFF" * length], 0 if length == width else 11
+            yield [kind], [bytes(range(1, length + 1))], 0 if length == width else 11
+        for value in VALUES_8 if kind % 2 else VALUES_4:
+            yield [kind], [value], 0
+
+
+def first_absent(rng):
+    for width in WIDTHS:
+        yield [width], [b"\xFF" * 8], 1
+        yield [width], [b""], 1
+    for width in (4, 8):
+        absent, present = b"\xFF" * width, b"\xFF" * (width - 1) + b"\xFE"
+        yield [width], [b""], 0
+        for length in (1, width - 1, width + 1, 2 * width - 1, 2 * width + 1):
+            yield [width], [b"\xFF" * length], 11
+        for count in (1, 2, 3, 7):
+            yield [width], [present * count], 0
+            for place in range(count):
+                yield [width], [present * place + absent + present * (count - place - 1)], 0
+        yield [width], [absent * 3], 0
+        # a run of FF over two places is no hit
+        for cut in range(width):
+            yield [width], [bytes(cut + 1) + absent + bytes(width - cut - 1) if cut < width - 1 else bytes(width) + absent], 0
+        for at in range(width):
+            value = bytearray(absent)
+            value[at] ^= 1 << rng.randrange(8)
+            yield [width], [bytes(value)], 0
+            yield [width], [bytes(value) + absent], 0
+        for value in VALUES_4 + VALUES_8:
+            if len(value) == width:
+                yield [width], [value + absent], 0
+
+
+def channel_of(rng):
+    masks = [0, 1, 2, 3, 5, 0x80000000, 0x80000001, 0x7FFFFFFF, 0xFFFFFFFF, 0xAAAAAAAA, 0x00010000]
+    masks += [rng.randrange(2 ** 32) for _ in range(6)]
+    for mask in masks:
+        count = bin(mask).count("1")
+        for place in {0, 1, 2, 3, count, count + 1, 32, 33, WIDEST}:
+            yield [mask, place], [], 0
+
+
+CASES = {1: checksum_from, 2: checksum, 3: dates, 4: value_at, 5: read_value, 6: first_absent, 7: channel_of}

@@ -1,0 +1,180 @@
+"""Cases for SM160 frames, the sender and the receiver (acts 40 to 43)."""
+from cases.making import changed, flipped, pattern, with_faults
+from crc import low_byte_first
+from printed import FRAMES
+from sm160 import frame_bytes, frame_crc
+
+WIDEST = 2 ** 64 - 1
+
+
+def frame(plan):
+    """The bytes of a plan, with its CRC16 made after all else, but for the bits that `crc` flips in it."""
+    part = pattern(plan["part"])
+    made = frame_bytes(plan["session"], plan["offset"], plan["flags"], part)
+    made = changed(made, 6, ((len(part) + plan["size"]) % 65536).to_bytes(2, "little"))
+    made = changed(made, 8, low_byte_first(frame_crc(made) ^ plan["crc"]))
+    return made[:plan["received"]]
+
+
+GOOD = {"session": 0x0102, "offset": 0, "flags": 2, "part": 4, "size": 0, "crc": 0, "received": None}
+FRAME_FAULTS = [
+    (21, {"received": 11}),
+    (21, {"received": 0}),
+    (22, {"size": 1}),
+    (22, {"size": -1}),
+    (22, {"size": 256}),
+    (23, {"part": 0}),
+    (23, {"part": 241}),
+    (24, {"crc": 0x0001}),
+    (24, {"crc": 0x8000}),
+    (25, {"flags": 3}),
+    (25, {"flags": 10}),
+    (25, {"flags": 0x8002}),
+]
+FRAME_ORDER = [21, 22, 23, 24, 25]
+
+
+def crc_anew(made):
+    return changed(made, 8, low_byte_first(frame_crc(made)))
+
+
+def read_frame(rng):
+    yield from with_faults(lambda plan: ([], [frame(plan)]), GOOD, FRAME_FAULTS, FRAME_ORDER)
+    for packet in FRAMES:
+        yield [], [packet[8:]], None
+        yield [], [flipped(packet[8:], rng.randrange(96, 8 * len(packet[8:])))], 24
+    for flags in (0, 2, 4, 6):
+        yield [], [frame({**GOOD, "flags": flags})], 0
+    for bit in range(16):
+        yield [], [frame({**GOOD, "flags": 1 << bit})], 0 if bit in (1, 2) else 25
+    for session in (0, 1, 255, 256, 0xFFFF):
+        yield [], [frame({**GOOD, "session": session})], 0
+    for offset in (0, 1, 255, 256, 65535, 65536, 2 ** 31, 2 ** 32 - 1):
+        yield [], [frame({**GOOD, "offset": offset})], 0
+    for part in (1, 2, 239, 240, 241, 242):
+        yield [], [frame({**GOOD, "part": part})], 23 if part > 240 else 0
+    yield [], [frame({**GOOD, "part": 241, "size": -1})], 22
+    yield [], [frame({**GOOD, "part": 0, "size": 1})], 22
+    yield [], [frame({**GOOD, "size": -4})], 22
+    yield [], [b"\x00\x00"], 21
+    good = frame(GOOD)
+    for bit in range(8 * len(good)):
+        yield [], [flipped(good, bit)], 22 if bit // 8 in (6, 7) else 24
+    for bit in range(0, 8 * len(good), 5):
+        yield [], [crc_anew(flipped(good, bit))], None
+    for length in range(len(good)):
+        yield [], [good[:length]], 21 if length < 12 else 22
+    for beyond in (1, 2, 100):
+        yield [], [good + bytes(beyond)], 22
+    # CRC16 by the rules that the traffic shut out: high byte first, and the flags taken as zero
+    yield [], [changed(good, 8, good[9:7:-1])], 24
+    yield [], [changed(good, 8, low_byte_first(frame_crc(changed(good, 10, bytes(2)))))], 24
+
+
+def write_frame(rng):
+    def build(plan):
+        return [plan["session"], plan["offset"], plan["flags"]], [pattern(plan["part"]), pattern(max(0, 12 + plan["part"] + plan["more"]), 0x31)]
+    good = {"session": 0x0102, "offset": 0x03040506, "flags": 2, "part": 4, "more": 0}
+    yield from with_faults(build, good, [
+        (23, {"part": 0}), (23, {"part": 241}), (25, {"flags": 1}), (25, {"flags": 8}), (25, {"flags": 0x8006}),
+        (16, {"more": -1}), (16, {"more": -1000})], [23, 25, 16])
+    for session in (0, 1, 255, 256, 0xFFFF):
+        yield *build({**good, "session": session}), 0
+    for offset in (0, 1, 255, 256, 65535, 65536, 2 ** 31, 2 ** 32 - 1):
+        yield *build({**good, "offset": offset}), 0
+    for bit in range(16):
+        yield *build({**good, "flags": 1 << bit}), 0 if bit in (1, 2) else 25
+    for flags in (0, 2, 4, 6, 7, 0xFFFF):
+        yield *build({**good, "flags": flags}), 25 if flags & ~6 else 0
+    for part in (1, 2, 239, 240, 241, 242, 255, 256):
+        for more in (-1, 0, 3):
+            yield *build({**good, "part": part, "more": more}), 23 if part > 240 else 16 if more < 0 else 0
+    for more in range(-16, 3):
+        yield *build({**good, "more": more}), 16 if more < 0 else 0
+    for _ in range(20):
+        yield *build({"session": rng.randrange(65536), "offset": rng.randrange(2 ** 32), "flags": 2 * rng.randrange(4),
+                      "part": rng.randint(1, 30), "more": rng.randrange(4)}), 0
+
+
+def send(rng):
+    def build(plan):
+        part = min(plan["largest"], max(0, plan["file"] - plan["place"]))
+        output = pattern(max(0, min(12 + part, 300) + plan["more"]), 0x31)
+        return [plan["session"], plan["largest"], plan["place"]], [pattern(plan["file"]), output]
+    good = {"session": 0x0102, "largest": 4, "place": 4, "file": 10, "more": 0}
+    yield from with_faults(build, good, [
+        (32, {"file": 0}), (33, {"largest": 0}), (33, {"largest": 241}), (33, {"largest": 2 ** 32 + 1}), (33, {"largest": WIDEST}),
+        (34, {"place": 10}), (34, {"place": 11}), (34, {"place": 2 ** 32}), (34, {"place": WIDEST}),
+        (16, {"more": -1}), (16, {"more": -1000})], [32, 33, 34, 16])
+    for place in range(12):
+        for largest in (1, 3, 4, 5, 9, 10, 11, 240):
+            yield *build({**good, "place": place, "largest": largest}), 0 if place < 10 else 34
+    for file, largest, place in ((1, 1, 0), (1, 240, 0), (240, 240, 0), (241, 240, 0), (241, 240, 240), (300, 240, 100), (300, 240, 60), (300, 239, 60)):
+        for more in (-1, 0, 2):
+            yield *build({**good, "file": file, "largest": largest, "place": place, "more": more}), 16 if more < 0 else 0
+    for session in (0, 255, 256, 0xFFFF):
+        yield *build({**good, "session": session}), 0
+    for more in range(-16, 3):
+        yield *build({**good, "more": more}), 16 if more < 0 else 0
+
+
+def receive(rng):
+    def build(plan):
+        return ([plan["own session"], plan["under way"], plan["count"]],
+                [frame({**plan, "flags": plan["flags"]}), pattern(plan["buffer"], 0x31)])
+    going = {**GOOD, "own session": 0x0102, "under way": 1, "count": 6, "buffer": 20, "offset": 6, "flags": 0}
+    idle = {**going, "under way": 0, "count": 0, "offset": 0, "flags": 2}
+    order = list(range(20, 32))
+    unfit = [
+        (20, {"buffer": 5}),
+        (20, {"under way": 0}),
+        (20, {"count": 0}),
+        (20, {"count": 21}),
+        (20, {"count": WIDEST}),
+    ]
+    yield from with_faults(build, going, unfit + FRAME_FAULTS + [
+        (26, {"session": 0x0103}), (26, {"own session": 0x0202}),
+        (29, {"offset": 5}), (29, {"offset": 0}), (30, {"offset": 7}), (30, {"offset": 2 ** 32 - 1}), (31, {"buffer": 9})], order)
+    yield from with_faults(build, idle, [
+        (20, {"count": 1}), (20, {"under way": 1}), (25, {"flags": 3}), (26, {"session": 0x0002}), (27, {"flags": 0}), (27, {"flags": 4}),
+        (28, {"offset": 1}), (28, {"offset": 2 ** 31}), (31, {"buffer": 3}), (31, {"buffer": 0})], order)
+    # START over a file under way; refused, it leaves the file
+    yield from with_faults(build, {**going, "flags": 2, "offset": 0}, [
+        (24, {"crc": 1}), (26, {"session": 7}), (28, {"offset": 6}), (31, {"part": 21})], order)
+    for plan in (going, idle):
+        for end in (0, 4):
+            for buffer in range(12):
+                yield *build({**plan, "flags": plan["flags"] + end, "buffer": buffer}), None
+    for part in (1, 2, 13, 14, 15, 239, 240):
+        for end in (0, 4):
+            yield *build({**going, "part": part, "flags": end}), 31 if part > 14 else 0
+            yield *build({**idle, "part": part, "flags": 2 + end}), 31 if part > 20 else 0
+    for part in (239, 240):
+        yield *build({**going, "part": part, "buffer": 246}), 0
+        yield *build({**going, "part": part, "buffer": 245}), 31 if part > 239 else 0
+    # a full buffer is fit
+    yield *build({**going, "count": 20, "offset": 20}), 31
+    yield *build({**going, "count": 20, "offset": 19}), 29
+    yield *build({**going, "count": 20, "offset": 0, "flags": 2}), 0
+    yield *build({**idle, "buffer": 0, "flags": 0}), 27
+    # 01's edges at 141, and the printed frames
+    for offset, due in ((141, 0), (73, 29), (142, 30)):
+        yield *build({**going, "part": 68, "buffer": 400, "count": 141, "offset": offset}), due
+    for count, packet in ((141, FRAMES[5]), (209, FRAMES[6]), (277, FRAMES[7])):
+        yield [2, 1, count], [packet[8:], pattern(320)], 0
+        yield [2, 1, count], [packet[8:], pattern(count + len(packet) - 20)], 0
+        yield [2, 1, count], [packet[8:], pattern(count + len(packet) - 21)], 31
+    for packet, due in zip(FRAMES, (25, 28, 25, 25, 28, 27, 27, 27)):
+        yield [packet[8], 0, 0], [packet[8:], pattern(10)], due
+    yield [2, 1, 141], [FRAMES[4][8:], pattern(210)], 28
+    good = frame(going)
+    for bit in range(0, 8 * len(good), 3):
+        yield [0x0102, 1, 6], [flipped(good, bit), pattern(20)], 22 if bit // 8 in (6, 7) else 24
+    for bit in range(0, 96, 2):
+        yield [0x0102, 1, 6], [crc_anew(flipped(good, bit)), pattern(20)], None
+    for state in ([0x0102, 0, 1], [0x0102, 1, 0], [0x0102, 1, 21]):
+        yield state, [b"", pattern(20)], 20
+        yield state, [frame(idle), pattern(20)], 20
+
+
+CASES = {40: read_frame, 41: write_frame, 42: send, 43: receive}

@@ -1,0 +1,129 @@
+"""The reference against what it was not made from: printed traffic, published check values, 01's edges and its card."""
+import card
+import modbus
+import pulsar_body
+import pulsar_frame
+import pulsar_line
+import readings
+import sm160
+from crc import crc16, low_byte_first
+from dates import is_date
+from printed import FRAMES, MODBUS_LINES, MODBUS_PACKETS
+
+CARD = bytes.fromhex("00 00 00 20 00 21 00 00 40 00 00 00 00 00 00 00 A0")
+LISTING = "address;channel;time;kind;bits\n00000001;1;2000-01-01 00:00:00;2;0000000000000005\n"
+
+
+def same(what, got, due):
+    if got != due:
+        raise SystemExit(f"self check: {what}: got {got!r}, due {due!r}")
+
+
+def checksums():
+    same("checksum of nothing", crc16(b""), 0xFFFF)
+    same("checksum of 00", crc16(b"\x00"), 0x40BF)
+    same("checksum of 123456789", crc16(b"123456789"), 0x4B37)
+    same("CRC-16/ARC of 123456789", crc16(b"123456789", start=0), 0xBB3D)
+    for message in (b"", b"\x00", b"123456789", bytes(range(256))):
+        same("over a message and its checksum", crc16(message + low_byte_first(crc16(message))), 0)
+
+
+def printed_frames():
+    due = [
+        # session, offset, flags, size
+        (1, 0, 7, 22),
+        (1, 22, 6, 31),
+        (2, 0, 3, 68),
+        (2, 68, 5, 5),
+        (2, 73, 2, 68),
+        (2, 141, 0, 68),
+        (2, 209, 0, 68),
+        (2, 277, 4, 41),
+    ]
+    same("number of printed frames", len(FRAMES), 8)
+    for packet, (session, offset, flags, size) in zip(FRAMES, due):
+        refusal, (_, unit, function, frame) = modbus.read_tcp(packet)
+        same("printed packet", (refusal, unit, function), (0, 0xFF, 0x45))
+        same("printed header", (sm160.session_field(frame), sm160.offset_field(frame), sm160.flags_field(frame), sm160.size_field(frame)),
+             (session, offset, flags, size))
+        same("printed CRC16", sm160.crc_field(frame), sm160.frame_crc(frame))
+        same("printed frame made from its fields", sm160.frame_bytes(session, offset, flags, frame[12:]), frame)
+        refusal, fields = sm160.read_frame(frame)
+        same("printed frame read", (refusal, fields), (25, None) if flags & 1 else (0, (session, offset, flags, frame[12:])))
+
+
+def printed_sessions():
+    """From opening, the master's frames are 25 and each reply's START is 28; from the lent state at 141, 01's own case."""
+    def fed(state, frames, buffer):
+        answers = []
+        for packet in frames:
+            refusal, answer, state, buffer = sm160.receive(state, packet[8:], buffer)
+            answers.append(refusal or answer)
+        return answers, state, buffer
+    same("session 1 from opening", fed((1, False, 0), FRAMES[:2], bytes(400))[0], [25, 28])
+    same("session 2 from opening", fed((2, False, 0), FRAMES[2:], bytes(400))[0], [25, 25, 28, 27, 27, 27])
+    answers, state, buffer = fed((2, True, 141), FRAMES[5:], bytes(400))
+    same("session 2 from 141", answers, [(False, 209), (False, 277), (True, 318)])
+    same("state after it", state, (2, False, 0))
+    same("bytes after it", buffer, bytes(141) + b"".join(packet[20:] for packet in FRAMES[5:]) + bytes(400 - 318))
+
+
+def modbus_examples():
+    for line in MODBUS_LINES:
+        refusal, fields = modbus.read_rtu(line)
+        same("public RTU line", refusal, 0)
+        same("public RTU line written", modbus.write_rtu(*fields, bytes(len(line))), (0, len(line), line))
+    for packet in MODBUS_PACKETS:
+        refusal, fields = modbus.read_tcp(packet)
+        same("printed TCP packet", refusal, 0)
+        same("printed TCP packet written", modbus.write_tcp(*fields, bytes(len(packet))), (0, len(packet), packet))
+
+
+def edges():
+    """01, both sides of each edge."""
+    same("address 12 34 56 78", pulsar_frame.address_field(bytes.fromhex("12345678")), 12_345_678)
+    same("address 12 34 56 7A", pulsar_frame.read_at_meter(1, bytes.fromhex("1234567A 01 0A 0000 0000"))[0], 3)
+    same("9 bytes", pulsar_frame.read_at_meter(1, bytes(9))[0], 2)
+    same("LEN 9", pulsar_frame.read_at_meter(1, bytes.fromhex("12345678 01 09 0000 0000"))[0], 4)
+    same("LEN 11", pulsar_frame.read_at_meter(1, bytes.fromhex("12345678 01 0B 0000 0000"))[0], 4)
+    same("mask 5, body of 8", pulsar_body.read_reply(1, 4, 5, bytes(range(8))), (0, {"mask": 5, "values": bytes(range(8))}))
+    same("mask 5 is two values", readings.value_places(4, bytes(range(8))), [bytes(range(4)), bytes(range(4, 8))])
+    same("mask 5, body of 7", pulsar_body.read_reply(1, 4, 5, bytes(7))[0], 11)
+    same("mask 0, empty body", pulsar_body.read_reply(1, 4, 0, b"")[0], 12)
+    same("month 12", pulsar_body.read_reply(4, 4, 0, bytes([0, 12, 1, 0, 0, 0]))[0], 0)
+    same("month 13", pulsar_body.read_reply(4, 4, 0, bytes([0, 13, 1, 0, 0, 0]))[0], 13)
+    same("31 February", is_date(bytes([23, 2, 31, 0, 0, 0])), True)
+    same("01's card", card.read_card(CARD), (0, (1, 1, 0, 1, 1, 0, 0, 0, 2, 5)))
+    same("01's card written", card.write_card(1, 1, (0, 1, 1, 0, 0, 0), 2, 5, bytes(17)), (0, 17, CARD))
+    part = bytes(range(68))
+    for offset, due in ((141, 0), (73, 29), (142, 30)):
+        refusal, answer, _, buffer = sm160.receive((2, True, 141), sm160.frame_bytes(2, offset, 0, part), bytes(400))
+        same(f"receiver at 141, offset {offset}", refusal, due)
+        same(f"receiver at 141, offset {offset}", answer, None if due else (False, 209))
+        same("bytes", buffer, bytes(400) if due else bytes(141) + part + bytes(400 - 209))
+    frame = sm160.frame_bytes(2, 141, 0, part)
+    same("a part that fills the buffer", sm160.receive((2, True, 141), frame, bytes(209))[0:2], (0, (False, 209)))
+    same("one byte more", sm160.receive((2, True, 141), frame, bytes(208))[0], 31)
+
+
+def lister():
+    same("01's listing", card.listing(CARD), LISTING)
+    same("no input", card.listing(b""), "address;channel;time;kind;bits\n")
+    same("a short last card", card.listing(CARD + CARD[:16]), LISTING + "refused 50\n")
+
+
+def collector():
+    state = pulsar_line.fresh()
+    for byte in range(256):
+        _, state = pulsar_line.push(state, byte)
+    same("the 256th byte is dropped", pulsar_line.silence(state), (0, (bytes(range(255)), (bytes(255), 0))))
+
+
+def check():
+    for one in (checksums, printed_frames, printed_sessions, modbus_examples, edges, lister, collector):
+        one()
+
+
+if __name__ == "__main__":
+    check()
+    print("self check: good")
