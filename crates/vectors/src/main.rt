@@ -1,8 +1,12 @@
 // Answers each case of standard input with a line. tests/reference/CASES.md says how a case and a line are written.
+mod collector;
 mod envelope;
 mod files;
+mod frames;
 mod ground;
 mod readings;
+mod receiver;
+mod replies;
 mod requests;
 mod say;
 
@@ -17,14 +21,30 @@ fn size_at(numbers: &[u8], at: usize) -> usize {
     le64_at(numbers, at) as usize
 }
 
+fn pulsar(act: u8, numbers: &[u8], bytes: &[u8], out: &mut [u8]) -> bool {
+    match act {
+        10..=13 => frames::answer(act, numbers, bytes, out),
+        14..=15 => collector::answer(act, numbers, bytes),
+        20 | 22 => requests::answer(act, numbers, bytes, out),
+        _ => replies::answer(act, numbers, bytes, out),
+    }
+}
+
+fn controller(act: u8, numbers: &[u8], bytes: &[u8], out: &mut [u8]) -> bool {
+    match act {
+        30..=33 => envelope::answer(act, numbers, bytes, out),
+        40..=42 => files::answer(act, numbers, bytes, out),
+        _ => receiver::answer(numbers, bytes, out),
+    }
+}
+
 // Answers a case: an act, its numbers of eight bytes each, and its byte strings. False where there is no such act.
 fn answer(act: u8, numbers: &[u8], bytes: &[u8], out: &mut [u8]) -> bool {
     match act {
         1..=3 => ground::answer(act, numbers, bytes),
         4..=7 => readings::answer(act, numbers, bytes),
-        20 | 22 => requests::answer(act, numbers, bytes, out),
-        30..=33 => envelope::answer(act, numbers, bytes, out),
-        40..=42 => files::answer(act, numbers, bytes, out),
+        10..=23 => pulsar(act, numbers, bytes, out),
+        30..=43 => controller(act, numbers, bytes, out),
         _ => false,
     }
 }
