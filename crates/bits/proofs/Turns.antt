@@ -1,21 +1,21 @@
 -- A turn of each loop over bits and fields.
 -- Assumes nothing.
-use mathlib.Core.Path.{_≡_, refl, sym, ap, ap₂, _∙_, subst}
+use mathlib.Core.Path.{_≡_, refl, sym, ap, ap₂, _∙_}
 use mathlib.Core.List.{List, [], _∷_, _++_}
 use Prim.Native.Nat.{ℕ, zero, suc, _+_, _-_, _*_, _/_, _%_, _^_, _≤_, _<_}
-use native.Mathlib.Nat.{add-zero, add-assoc, zero-add, lt-of-lt-of-le, div-eq-of-lt}
+use native.Mathlib.Nat.{add-zero, add-assoc, lt-of-lt-of-le, div-eq-of-lt}
 use native.Mathlib.Numerals.{add-one}
 use native.Mathlib.Omega.{arith}
 use lib.ListN.{length, getD, take, drop, set, List·getD-append, drop-of-length-le}
 use lib.Seq.{sets, drop-cons, drop-drop, getD-drop, getD-append-add}
 use lib.Pow.{pow-mono}
-use Rattle.wire.specs.Numbers.{number, field}
+use Rattle.wire.specs.Numbers.{field}
 use Rattle.wire.specs.Each.{Each}
 use Rattle.wire.proofs.Each.{getD-each}
 use Rattle.wire.proofs.Fields.{field-append}
 use Rattle.wire.proofs.Turns.{field-drop}
 use Rattle.wire.proofs.Writing.{sets-then}
-use Rattle.bits.specs.Bits.{Bit, bits, ofBits, bitsOf, bytesOf}
+use Rattle.bits.specs.Bits.{Bit, bits, ofBits, bytesOf}
 use Rattle.bits.specs.Fields.{joined, total}
 use Rattle.bits.proofs.Bits.{ofBits-more, bit-of-bits, length-bits, length-bytesOf, field-lt}
 

@@ -1,7 +1,7 @@
 -- Fields of given widths in bits, one after the other, most significant bit first. The widths are the layout: what is written and what
 -- is read both follow from them.
 -- Assumes nothing.
-use Prim.Native.Nat.{ℕ, zero, suc, _+_, _^_, _<_}
+use Prim.Native.Nat.{ℕ, _+_, _^_, _<_}
 use mathlib.Core.List.{List, [], _∷_, _++_}
 use lib.ListN.{getD, drop}
 use Rattle.wire.specs.Numbers.{field}

@@ -1,7 +1,7 @@
 // Fields of given widths in bits, packed one after the other into bytes, most significant bit first. The widths are the layout: the
 // reader and the writer go by the same list. What each means is in specs/Fields.antt.
 ghost use mathlib.Core.Path.{_≡_};
-ghost use Prim.Native.Nat.{_/_, _%_, _^_, _≤_, _<_};
+ghost use Prim.Native.Nat.{_/_, _%_, _^_, _<_};
 ghost use lib.ListN.{getD, take};
 ghost use lib.Seq.{sets};
 ghost use Rattle.wire.specs.Numbers.{field};

@@ -1,20 +1,19 @@
 -- The fields of a card: each fits its width, and what the code reads by its place is what the layout names.
 -- Assumes nothing.
-use mathlib.Core.Path.{_≡_, refl, sym, ap, _∙_, subst}
-use mathlib.Core.List.{List, [], _∷_, _++_}
-use Prim.Native.Nat.{ℕ, zero, suc, _+_, _%_, _^_, _≤_, _<_}
+use mathlib.Core.Path.{_≡_, _∙_}
+use mathlib.Core.List.{List, [], _∷_}
+use Prim.Native.Nat.{ℕ, _%_, _^_, _≤_, _<_}
 use native.Mathlib.Nat.{mod-eq-of-lt, lt-of-lt-of-le}
 use native.Mathlib.Omega.{arith}
-use lib.Dec.{lit<}
 use lib.Pow.{pow-mono}
-use lib.ListN.{length, getD}
+use lib.ListN.{getD}
 use Rattle.wire.specs.Each.{Each}
 use Rattle.wire.proofs.Each.{getD-each}
 use Rattle.bits.specs.Bits.{bitsOf}
-use Rattle.bits.specs.Fields.{unpacked, valuesFrom}
+use Rattle.bits.specs.Fields.{unpacked}
 use Rattle.bits.proofs.Bits.{bitsOf-below, field-lt}
 use Rattle.bits.proofs.Fields.{value-of, unpacked-front}
-use Rattle.card.specs.Layout.{fieldWidths, cardWidths, fieldOf, spareOf}
+use Rattle.card.specs.Layout.{fieldWidths, cardWidths, fieldOf}
 
 -- a field fits its width
 pub field-fits : (s : List ℕ) (k : ℕ) → getD (unpacked cardWidths s) k 0 < 2 ^ getD cardWidths k 0

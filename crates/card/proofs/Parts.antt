@@ -1,6 +1,6 @@
 -- What a date that is in range and a reading that fits its kind say of their numbers. (The first belongs in `date`, the others in `reading`.)
 -- Assumes nothing.
-use mathlib.Core.Path.{_≡_, refl, sym, ap, _∙_}
+use mathlib.Core.Path.{_≡_, refl, ap}
 use mathlib.Core.Bool.{Bool, true, false, not, _&&_}
 use Prim.Native.Nat.{ℕ, zero, suc, _/_, _%_, _^_, _≤_, _<_}
 use native.Mathlib.Nat.{mod-eq-of-lt}
@@ -9,7 +9,7 @@ use lib.Dec.{eqb, leb}
 use borrow.Author.Tests.{leb-true, eqb-true, eq-eqb, not-false}
 use Rattle.date.specs.Date.{isDate, within}
 use Rattle.date.specs.declared.DateTime.{DateTime}
-use Rattle.reading.specs.Reading.{numberOf, kindFrom, readingOf, bitsOf, kindOf, widthOf}
+use Rattle.reading.specs.Reading.{numberOf, kindFrom, readingOf, bitsOf, kindOf}
 use Rattle.reading.specs.declared.Kind.{Kind}
 use Rattle.reading.specs.declared.Kind.the-variants as K
 use Rattle.reading.specs.declared.Reading.{Reading}

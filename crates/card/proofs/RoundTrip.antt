@@ -1,9 +1,9 @@
 -- A card that is written reads back, and bytes that are read as a card, written again, are the same bytes.
 -- Assumes nothing.
 use mathlib.Core.Path.{_≡_, refl, sym, ap, ap₂, _∙_, subst}
-use mathlib.Core.Bool.{Bool, true, false, not, _||_}
-use mathlib.Core.List.{List, [], _∷_, _++_}
-use Prim.Native.Nat.{ℕ, zero, suc, _+_, _-_, _*_, _/_, _^_, _≤_, _<_}
+use mathlib.Core.Bool.{false, not}
+use mathlib.Core.List.{List, [], _∷_}
+use Prim.Native.Nat.{ℕ, zero, suc, _+_, _-_, _*_, _≤_, _<_}
 use native.Mathlib.Omega.{arith}
 use lib.Dec.{eqb, ltb, lit<}
 use lib.ListN.{length, getD}
@@ -18,13 +18,11 @@ use Rattle.date.specs.Date.{isDate}
 use Rattle.date.specs.declared.DateTime.{DateTime}
 use Rattle.reading.specs.Reading.{numberOf, kindFrom, readingOf, bitsOf, kindOf}
 use Rattle.reading.proofs.Laws.{kind-reads-back}
-use Rattle.reading.specs.declared.Kind.{Kind}
 use Rattle.reading.specs.declared.Reading.{Reading}
-use Rattle.card.specs.Layout.{cardWidths, cardFields, cardBytes, fieldOf, addressOf, channelOf, timeOf, kindIn, valueBits, spareOf, cardOf}
-use Rattle.card.specs.Reading.{badAddress, badTime, upperHalfSet, spareSet, otherLength, readRules, cardAnswer, readCard}
-use Rattle.card.specs.Writing.{badChannel, tooSmall, writeRules, FitsKind}
+use Rattle.card.specs.Layout.{cardWidths, cardFields, cardBytes, fieldOf, channelOf, timeOf, kindIn, valueBits, spareOf, cardOf}
+use Rattle.card.specs.Reading.{badAddress, badTime, upperHalfSet, readRules, cardAnswer, readCard}
+use Rattle.card.specs.Writing.{badChannel, writeRules, FitsKind}
 use Rattle.card.specs.declared.Card.{Card}
-use Rattle.card.specs.declared.CardRead.{CardRead}
 use Rattle.card.specs.declared.CardRead.the-variants as R
 use Rattle.card.proofs.Answers.{length-card}
 use Rattle.card.proofs.Fields.{field-fits, shared}

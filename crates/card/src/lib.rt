@@ -3,13 +3,13 @@ use date::DateTime;
 use reading::Reading;
 use wire::Written;
 ghost use mathlib.Core.Path.{_≡_};
-ghost use Prim.Native.Nat.{_-_, _<_, _^_};
+ghost use Prim.Native.Nat.{_-_, _<_};
 ghost use lib.ListN.{getD};
 ghost use lib.Seq.{sets};
 ghost use Rattle.wire.specs.Refusal.{first};
 ghost use Rattle.wire.specs.Writes.{Writes};
 ghost use Rattle.bits.specs.Fields.{unpacked};
-ghost use Rattle.card.specs.Layout.{cardWidths, cardFields, cardBytes, addressOf, channelOf, timeOf, kindIn, valueBits, cardOf};
+ghost use Rattle.card.specs.Layout.{cardWidths, cardBytes, addressOf, channelOf, timeOf, kindIn, valueBits, cardOf};
 ghost use Rattle.card.specs.Reading.{otherLength, spareSet, badAddress, badTime, upperHalfSet, readRules, readCard};
 ghost use Rattle.card.specs.Writing.{badChannel, tooSmall, writeRules};
 

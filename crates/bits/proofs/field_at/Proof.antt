@@ -3,7 +3,7 @@
 use mathlib.Core.Path.{sym, ap, ap₂, _∙_}
 use Prim.Native.Nat.{ℕ, _%_, _^_}
 use native.Mathlib.Nat.{zero-add}
-use lib.ListN.{getD, take}
+use lib.ListN.{getD}
 use Rattle.wire.specs.Numbers.{field}
 use Rattle.bits.specs.Bits.{ofBits, bitsOf}
 use Rattle.bits.proofs.Fields.{value-of}

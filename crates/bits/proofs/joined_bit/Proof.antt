@@ -1,10 +1,8 @@
 -- `bits::joined_bit` meets its contract. The loop's invariant: the bit is `left` bits into the fields from the i-th on.
 -- Assumes nothing.
-use mathlib.Core.Path.{_≡_, refl, sym, ap, _∙_}
-use Prim.Native.Nat.{ℕ, _+_, _-_, _/_, _%_, _^_, _≤_}
+use Prim.Native.Nat.{_-_}
 use native.Mathlib.Omega.{arith}
-use lib.ListN.{length, getD, drop}
-use Rattle.bits.specs.Fields.{joined}
+use lib.ListN.{length}
 use Rattle.bits.proofs.Turns.{Sought, sought-begun, sought-here, sought-later, sought-past}
 use borrow.Author.Needs.{needs}
 use Rattle.bits.proofs.joined_bit.Statement.{statement}

@@ -1,6 +1,5 @@
 -- `card::small` meets its contract.
 -- Assumes nothing.
-use mathlib.Core.Path.{sym}
 use Rattle.card.proofs.Fields.{field-byte}
 use borrow.Author.Needs.{needs}
 use Rattle.card.proofs.small.Statement.{statement}

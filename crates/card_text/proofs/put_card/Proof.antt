@@ -49,13 +49,16 @@ same-length c = search needs
 
 returns : tie.Need-returns
 returns c =
-    let kind = c .before .before .before .before .before .before .before .before .wide2 .ensures ∙ c .before .before .before .before .before .before .before .before .before .number-of .ensures ∙ ap numberOf (c .before .before .before .before .before .before .before .before .before .before .kind-of .ensures) in
-    stored-as _ _ _ _ _ _ (card-text _ _ _ _ _ (c .before .before .before .before .before .before .before .before .before .before .before .before .before .before .before .before .before .before .before .before .plain-width .ensures .0) (c .before .before .before .before .before .before .before .before .before .before .before .before .before .before .before .before .before .before .before .wide .ensures) kind (c .before .before .before .bits .ensures))
-    (stored-then _ _ _ _ _ _ _ _ _ (stored-then _ _ _ _ _ _ _ _ _ (stored-then _ _ _ _ _ _ _ _ _ (stored-then _ _ _ _ _ _ _ _ _ (c .before .before .before .before .before .before .before .before .before .before .before .before .before .before .before .before .before .before .before .before .before .before .before .before .put-field .ensures .0)
-    (c .before .before .before .before .before .before .before .before .before .before .before .before .before .before .before .before .before .before .put-field2 .ensures .0))
-    (c .before .before .before .before .before .before .before .before .before .before .before .before .before .before .put-time .ensures .0))
-    (c .before .before .before .before .before .before .before .put-field3 .ensures .0))
-    (c .before .before .put-field4 .ensures .0))
+    let bits = c .before .before in
+    let kind = bits .before .before .before .before .before in
+    let time = kind .before .before .before .before .before .before .before in
+    let channel = time .before .before .before .before in
+    let address = channel .before .before .before .before .before .before in
+    let number = kind .before .wide2 .ensures ∙ kind .before .before .number-of .ensures ∙ ap numberOf (kind .before .before .before .kind-of .ensures) in
+    let text = card-text (address .before .before .before .before .before .args .card) _ _ _ _ (channel .before .before .plain-width .ensures .0) (channel .before .wide .ensures) number (bits .before .bits .ensures) in
+    let first = stored-then _ _ _ _ _ _ _ _ _ (address .put-field .ensures .0) (channel .put-field2 .ensures .0) in
+    let middle = stored-then _ _ _ _ _ _ _ _ _ first (time .put-time .ensures .0) in
+    stored-as _ _ _ _ _ _ text (stored-then _ _ _ _ _ _ _ _ _ (stored-then _ _ _ _ _ _ _ _ _ middle (kind .put-field3 .ensures .0)) (bits .put-field4 .ensures .0))
 
 pub put-card-spec : {M : Type 1} → statement M
 put-card-spec =

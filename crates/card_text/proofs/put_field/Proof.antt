@@ -1,7 +1,6 @@
 -- `card_text::put_field` meets its contract.
 -- Assumes nothing.
 use native.Mathlib.Omega.{arith}
-use mathlib.Core.Path.{_∙_}
 use Rattle.card_text.proofs.Text.{stored-field}
 use borrow.Author.Needs.{needs}
 use Rattle.card_text.proofs.put_field.Statement.{statement}

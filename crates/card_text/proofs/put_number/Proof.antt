@@ -1,7 +1,7 @@
 -- `card_text::put_number` meets its contract. The loop's invariant: the i digits that are left to store, over what is stored, give the whole.
 -- Assumes nothing.
 use native.Mathlib.Omega.{arith}
-use mathlib.Core.Path.{refl, ap, _∙_}
+use mathlib.Core.Path.{refl}
 use native.Mathlib.Nat.{mod-lt, lt-of-lt-of-le}
 use Rattle.card_text.proofs.Text.{Left, left-begun, left-less, left-none}
 use borrow.Author.Needs.{needs}

@@ -56,13 +56,25 @@ put-field-requires-6 c κs = (omega (arith, c .before .before .before .before .b
 whole : (c : tie.After-slice-known7)
     → Stored (c .before .before .before .before .before .before .before .before .before .before .before .before .before .before .before .before .before .before .before .before .before .before .before .before .before .before .before .before .before .before .before .args .out .now) (c .before .before .before .before .before .before .before .before .before .before .before .before .before .before .before .before .before .before .before .before .before .before .before .before .before .before .before .before .before .before .before .args .at) (timeText (c .before .before .before .before .before .before .before .before .before .before .before .before .before .before .before .before .before .before .before .before .before .before .before .before .before .before .before .before .before .before .before .args .time) ++ ascii ";") (c .before .before .put-field6 .last .0) (c .before .before .put-field6 .result)
 whole c =
-    stored-as _ _ _ _ _ _ (time-text (c .before .before .before .before .before .before .before .before .before .before .before .before .before .before .before .before .before .before .before .before .before .before .before .before .before .before .before .before .before .before .before .args .time) _ _ _ _ _ _ (c .before .before .before .before .before .before .before .before .before .before .before .before .before .before .before .before .before .before .before .before .before .before .before .before .before .before .before .before .wide .ensures) (c .before .before .before .before .before .before .before .before .before .before .before .before .before .before .before .before .before .before .before .before .before .before .before .wide2 .ensures) (c .before .before .before .before .before .before .before .before .before .before .before .before .before .before .before .before .before .before .wide3 .ensures) (c .before .before .before .before .before .before .before .before .before .before .before .before .before .wide4 .ensures) (c .before .before .before .before .before .before .before .before .wide5 .ensures) (c .before .before .before .wide6 .ensures))
-    (stored-then _ _ _ _ _ _ _ _ _ (stored-then _ _ _ _ _ _ _ _ _ (stored-then _ _ _ _ _ _ _ _ _ (stored-then _ _ _ _ _ _ _ _ _ (stored-then _ _ _ _ _ _ _ _ _ (c .before .before .before .before .before .before .before .before .before .before .before .before .before .before .before .before .before .before .before .before .before .before .before .before .before .before .before .put-field .ensures .0)
-    (c .before .before .before .before .before .before .before .before .before .before .before .before .before .before .before .before .before .before .before .before .before .before .put-field2 .ensures .0))
-    (c .before .before .before .before .before .before .before .before .before .before .before .before .before .before .before .before .before .put-field3 .ensures .0))
-    (c .before .before .before .before .before .before .before .before .before .before .before .before .put-field4 .ensures .0))
-    (c .before .before .before .before .before .before .before .put-field5 .ensures .0))
-    (c .before .before .put-field6 .ensures .0))
+    let second = c .before .before in
+    let minute = second .before .before .before .before .before in
+    let hour = minute .before .before .before .before .before in
+    let day = hour .before .before .before .before .before in
+    let month = day .before .before .before .before .before in
+    let year = month .before .before .before .before .before in
+    let text =
+        time-text (year .before .before .before .before .args .time) _ _ _ _ _ _
+        (year .before .wide .ensures)
+        (month .before .wide2 .ensures)
+        (day .before .wide3 .ensures)
+        (hour .before .wide4 .ensures)
+        (minute .before .wide5 .ensures)
+        (second .before .wide6 .ensures) in
+    let months = stored-then _ _ _ _ _ _ _ _ _ (year .put-field .ensures .0) (month .put-field2 .ensures .0) in
+    let days = stored-then _ _ _ _ _ _ _ _ _ months (day .put-field3 .ensures .0) in
+    let hours = stored-then _ _ _ _ _ _ _ _ _ days (hour .put-field4 .ensures .0) in
+    let minutes = stored-then _ _ _ _ _ _ _ _ _ hours (minute .put-field5 .ensures .0) in
+    stored-as _ _ _ _ _ _ text (stored-then _ _ _ _ _ _ _ _ _ minutes (second .put-field6 .ensures .0))
 
 same-length : tie.Need-same-length
 same-length c = ap length (whole c .output) ∙ simp length-sets
