@@ -7,6 +7,7 @@ use native.Mathlib.Nat.{mod-eq-of-lt}
 use native.Mathlib.Omega.{arith}
 use lib.Dec.{eqb, leb}
 use borrow.Author.Tests.{leb-true, eqb-true, eq-eqb, not-false}
+use Rattle.wire.proofs.Bools.{and-true}
 use Rattle.date.specs.Date.{isDate, within}
 use Rattle.date.specs.declared.DateTime.{DateTime}
 use Rattle.reading.specs.Reading.{numberOf, kindFrom, readingOf, bitsOf, kindOf}
@@ -17,21 +18,17 @@ use Rattle.reading.specs.declared.Reading.the-variants.{F32, F64, U32, U64}
 use Rattle.card.specs.Reading.{upperHalfSet}
 use Rattle.card.specs.Writing.{FitsKind}
 
-both : (a b : Bool) → (a && b) ≡ true → (a ≡ true) × (b ≡ true)
-both true b e = (refl, e)
-both false b e = absurd (let z : _≡_ {A = ℕ} 0 1 = cc in omega arith)
-
 all-six : (a b c d e f : Bool) → (a && b && c && d && e && f) ≡ true → (a ≡ true) × (b ≡ true) × (c ≡ true) × (d ≡ true) × (e ≡ true) × (f ≡ true)
-all-six true true true true true true h = (refl, refl, refl, refl, refl, refl)
-all-six true true true true true false h = absurd (let z : _≡_ {A = ℕ} 0 1 = cc in omega arith)
-all-six true true true true false f h = absurd (let z : _≡_ {A = ℕ} 0 1 = cc in omega arith)
-all-six true true true false e f h = absurd (let z : _≡_ {A = ℕ} 0 1 = cc in omega arith)
-all-six true true false d e f h = absurd (let z : _≡_ {A = ℕ} 0 1 = cc in omega arith)
-all-six true false c d e f h = absurd (let z : _≡_ {A = ℕ} 0 1 = cc in omega arith)
-all-six false b c d e f h = absurd (let z : _≡_ {A = ℕ} 0 1 = cc in omega arith)
+all-six a b c d e f h =
+    let t₅ = and-true (a && b && c && d && e) f h in
+    let t₄ = and-true (a && b && c && d) e (t₅ .0) in
+    let t₃ = and-true (a && b && c) d (t₄ .0) in
+    let t₂ = and-true (a && b) c (t₃ .0) in
+    let t₁ = and-true a b (t₂ .0) in
+    (t₁ .0, t₁ .1, t₂ .1, t₃ .1, t₄ .1, t₅ .1)
 
 most : (lowest n highest : ℕ) → within lowest n highest ≡ true → n ≤ highest
-most lowest n highest e = leb-true n highest (both (leb lowest n) (leb n highest) e .1)
+most lowest n highest e = leb-true n highest (and-true (leb lowest n) (leb n highest) e .1)
 
 -- no number of a date is above its range
 pub record Ranges (d : DateTime) : Type 0 where

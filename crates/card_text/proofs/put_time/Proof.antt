@@ -63,13 +63,13 @@ whole c =
     let month = day .before .before .before .before .before in
     let year = month .before .before .before .before .before in
     let text =
-        time-text (year .before .before .before .before .args .time) _ _ _ _ _ _
-        (year .before .wide .ensures)
-        (month .before .wide2 .ensures)
-        (day .before .wide3 .ensures)
-        (hour .before .wide4 .ensures)
-        (minute .before .wide5 .ensures)
-        (second .before .wide6 .ensures) in
+    time-text (year .before .before .before .before .args .time) _ _ _ _ _ _
+    (year .before .wide .ensures)
+    (month .before .wide2 .ensures)
+    (day .before .wide3 .ensures)
+    (hour .before .wide4 .ensures)
+    (minute .before .wide5 .ensures)
+    (second .before .wide6 .ensures) in
     let months = stored-then _ _ _ _ _ _ _ _ _ (year .put-field .ensures .0) (month .put-field2 .ensures .0) in
     let days = stored-then _ _ _ _ _ _ _ _ _ months (day .put-field3 .ensures .0) in
     let hours = stored-then _ _ _ _ _ _ _ _ _ days (hour .put-field4 .ensures .0) in
