@@ -4,3 +4,4 @@ pub mod Parts
 pub mod RoundTrip
 pub mod Unique
 pub mod Order
+pub mod Edges

@@ -1,0 +1,20 @@
+-- Both sides of the edges, by computation; and the bytes of the card that 01 prints.
+-- Assumes nothing.
+use mathlib.Core.Path.{_≡_, refl}
+use Rattle.wire.specs.Numbers.{digits, number, field}
+use Rattle.wire.specs.Refusal.{pick}
+use Rattle.wire.specs.Told.{Holds}
+use Rattle.bits.specs.Bits.{bits, ofBits, bitsOf, bytesOf}
+use Rattle.bits.specs.Fields.{joined, valuesFrom}
+use Rattle.date.specs.Date.{isDate}
+use Rattle.card.specs.Layout.{cardBytes, fieldOf, spareOf}
+use Rattle.card.specs.Reading.{readCard}
+use Rattle.card.specs.Edges.{printed, changed, cardEdges}
+
+pub card-edges : Holds cardEdges
+unfolding digits number field pick bits ofBits bitsOf bytesOf joined valuesFrom isDate cardBytes fieldOf spareOf readCard
+card-edges = (refl, (refl, (refl, (refl, (refl, (refl, (refl, (refl, (refl, (refl, (refl, (refl, tt))))))))))))
+
+pub printed-card : cardBytes (changed 1 1 1) ≡ printed
+unfolding digits number field bits ofBits bytesOf joined cardBytes
+printed-card = refl
