@@ -13,7 +13,7 @@ use Rattle.card.specs.Edges.{printed, changed, cardEdges}
 
 pub card-edges : Holds cardEdges
 unfolding digits number field pick bits ofBits bitsOf bytesOf joined valuesFrom isDate cardBytes fieldOf spareOf readCard
-card-edges = (refl, (refl, (refl, (refl, (refl, (refl, (refl, (refl, (refl, (refl, (refl, tt)))))))))))
+card-edges = (refl, (refl, (refl, (refl, (refl, (refl, (refl, (refl, (refl, (refl, (refl, (refl, tt))))))))))))
 
 pub printed-card : cardBytes (changed 1 1 1) ≡ printed
 unfolding digits number field bits ofBits bytesOf joined cardBytes

@@ -1,4 +1,4 @@
--- Both sides of the edges of reading by length and of writing.
+-- Both sides of the edges of a card: 01's, and by length; and of writing.
 -- Assumes nothing.
 use Prim.Native.Nat.{ℕ}
 use mathlib.Core.List.{List, [], _∷_, _++_}
@@ -31,7 +31,8 @@ writing c out = toldWritten (writeAnswer (first (writeRules c out)) (cardBytes c
 
 abbrev pub cardEdges : List Edge
 cardEdges =
-    reading (drop 1 printed) gives refused 50
+    reading printed gives accepted (1 ∷ 1 ∷ 0 ∷ 1 ∷ 1 ∷ 0 ∷ 0 ∷ 0 ∷ 2 ∷ 5 ∷ [])
+    ∷ reading (drop 1 printed) gives refused 50
     ∷ reading (printed ++ (0 ∷ [])) gives refused 50
     ∷ writing (changed 1 1 1) printed gives accepted (17 ∷ [])
     ∷ writing (changed 99999999 32 12) printed gives accepted (17 ∷ [])

@@ -1,13 +1,7 @@
 -- The table of edges holds: each row is shown of the definitions by computation, where its room is.
 -- Assumes nothing.
-use mathlib.Core.Path.{refl}
 use mathlib.Core.List.{List, [], _∷_, _++_}
-use Rattle.wire.specs.Numbers.{digits, number, field}
-use Rattle.wire.specs.Refusal.{pick}
 use Rattle.wire.specs.Told.{Edge, _gives_, Holds}
-use Rattle.bits.specs.Bits.{bits, ofBits, bitsOf}
-use Rattle.bits.specs.Fields.{valuesFrom}
-use Rattle.date.specs.Date.{isDate}
 use Rattle.checksum.proofs.Edges.{checksum-edges}
 use Rattle.checksum.specs.Edges.{checksumEdges}
 use Rattle.pulsar_frame.proofs.Edges.{frame-edges}
@@ -16,19 +10,15 @@ use Rattle.pulsar_request.proofs.Edges.{request-edges}
 use Rattle.pulsar_request.specs.Edges.{requestEdges}
 use Rattle.pulsar_reply_laws.proofs.Edges.{reply-edges}
 use Rattle.pulsar_reply_laws.specs.Edges.{replyEdges}
-use Rattle.card.specs.Layout.{fieldOf, spareOf}
-use Rattle.card.specs.Reading.{readCard}
+use Rattle.card.proofs.Edges.{card-edges}
+use Rattle.card.specs.Edges.{cardEdges}
 use Rattle.sm160_printed.proofs.Edges.{receiver-edges}
 use Rattle.sm160_printed.specs.Edges.{receiverEdges}
-use Rattle.edges.specs.Table.{cardEdges, edges}
+use Rattle.edges.specs.Table.{edges}
 
 both : (xs ys : List Edge) → Holds xs → Holds ys → Holds (xs ++ ys)
 both [] ys h k = k
 both ((told gives said) ∷ xs) ys h k = (h .0, both xs ys (h .1) k)
-
-card-edges : Holds cardEdges
-unfolding readCard fieldOf spareOf bits ofBits bitsOf valuesFrom digits number field pick isDate
-card-edges = (refl, tt)
 
 pub edges-hold : Holds edges
 edges-hold =
