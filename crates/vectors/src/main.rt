@@ -1,4 +1,5 @@
 // Answers each case of standard input with a line. tests/reference/CASES.md says how a case and a line are written.
+mod cards;
 mod collector;
 mod envelope;
 mod files;
@@ -45,6 +46,7 @@ fn answer(act: u8, numbers: &[u8], bytes: &[u8], out: &mut [u8]) -> bool {
         4..=7 => readings::answer(act, numbers, bytes),
         10..=23 => pulsar(act, numbers, bytes, out),
         30..=43 => controller(act, numbers, bytes, out),
+        50..=51 => cards::answer(act, numbers, bytes, out),
         _ => false,
     }
 }

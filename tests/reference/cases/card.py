@@ -85,8 +85,12 @@ CASES = {50: read_card, 51: write_card}
 
 
 def lister_input(rng):
-    """Many cards: good ones, one refused by each number, and a short last one."""
+    """1,300 cards: the cases of act 50, among them cards refused by each number, then good ones; and a short last one."""
     cards = [strings[0] for _, strings, _ in read_card(rng) if len(strings[0]) == 17]
+    while len(cards) < 1300:
+        kind = rng.randrange(4)
+        cards.append(reference.card_bytes(rng.randint(1, HIGHEST), rng.randint(1, 32), random_date(rng), kind,
+                                          rng.getrandbits(64 if kind % 2 else 32)))
     return b"".join(cards) + FIRST[:16]
 
 
