@@ -12,7 +12,6 @@ NOT_ONE_BIT = (0, 3, 5, 0x80000001, 0xFFFFFFFF)
 MASKS = (1, 2, 5, 0x80, 0x80000000, 0xFFFF0000, 0xFFFFFFFF)
 LAST = bytes([99, 12, 31, 23, 59, 59])
 BAD_DATE = bytes([23, 13, 31, 12, 30, 30])
-ERROR = 7
 
 
 def le(number, width):
@@ -28,7 +27,11 @@ def mask_of(count):
     return (1 << count) - 1
 
 
-REQUEST = {"width": 4, "mask": 4, "type": 2, "first": GOOD_DATE, "last": LAST, "index": 0x1234, "eight": pattern(8), "values": None, "more": 0, "stray": b""}
+REQUEST = {
+    "width": 4, "mask": 4, "type": 2, "first": GOOD_DATE, "last": LAST, "index": 0x1234, "eight": pattern(8),
+    # the length of the values where it is not what the mask asks; bytes after the body, or missing; value bytes that the body has not
+    "values": None, "more": 0, "stray": b"",
+}
 
 
 def request_body(plan):
@@ -99,11 +102,14 @@ def read_request(rng):
     for bit in range(0, 8 * len(archive), 3):
         yield [6, 4], [flipped(archive, bit)], None
     for _ in range(10):
-        plan = {**REQUEST, "function": 6, "mask": 1 << rng.randrange(32), "type": rng.randint(1, 4), "first": random_date(rng), "last": random_date(rng)}
-        yield *read_request_case(plan), 0
+        plan = {**REQUEST, "function": 6, "mask": 1 << rng.randrange(32), "type": rng.randint(1, 4)}
+        yield *read_request_case({**plan, "first": random_date(rng), "last": random_date(rng)}), 0
 
 
-REPLY = {"width": 4, "asked": 5, "mask": 4, "date": GOOD_DATE, "status": 1, "zeros": bytes(3), "error": ERROR, "eight": pattern(8), "values": 2, "more": 0, "stray": b""}
+REPLY = {
+    "width": 4, "asked": 5, "mask": 4, "date": GOOD_DATE, "status": 1, "zeros": bytes(3), "error": 7, "eight": pattern(8),
+    "values": 2, "more": 0, "stray": b"",
+}
 
 
 def reply_body(plan):
@@ -251,7 +257,8 @@ def write_reply_body(rng):
         10: [(11, {"eight": pattern(7)}), (11, {"eight": b""})],
     }
     for function in REPLIES:
-        changes = [(1, {"width": 5}), (1, {"width": 0}), (11, {"stray": b"\x00"}), (16, {"more": -1}), (16, {"more": -1000}), *faults.get(function, [])]
+        changes = [(1, {"width": 5}), (1, {"width": 0}), (11, {"stray": b"\x00"}), (16, {"more": -1}), (16, {"more": -1000})]
+        changes += faults.get(function, [])
         yield from with_faults(written_reply, {**good, "function": function}, changes, order)
         for width in WIDTHS if function == 1 else WIDTHS[:2]:
             yield *written_reply({**good, "function": function, "width": width}), 1

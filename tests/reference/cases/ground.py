@@ -37,7 +37,7 @@ GOOD_DATE = bytes([23, 2, 28, 12, 30, 30])
 def edge_dates():
     """A good date with one field at each edge and beyond."""
     for at, (_, lowest, highest) in enumerate(RANGES):
-        for field in {0, lowest, highest, highest + 1, 127, 128, 255} | ({lowest - 1} if lowest else set()):
+        for field in sorted({0, lowest, highest, highest + 1, 127, 128, 255}):
             yield GOOD_DATE[:at] + bytes([field]) + GOOD_DATE[at + 1:]
     for rest in (bytes([0, 2, 29]), bytes([1, 2, 29]), bytes([23, 2, 30]), bytes([23, 2, 31]), bytes([23, 4, 31]), bytes([99, 12, 31])):
         yield rest + bytes([23, 59, 59])
@@ -64,9 +64,11 @@ def dates(rng):
 
 
 # Bits that a comparison of floats would mistake: NaNs, the infinities, both zeros, all bits set, all but one.
-VALUES_4 = [bytes.fromhex(v) for v in ("FFFFFFFF", "FFFFFF7F", "0000C07F", "0100807F", "0000C0FF", "0000807F", "00000000", "00000080", "FEFFFFFF", "78563412")]
-VALUES_8 = [bytes.fromhex(v) for v in ("FFFFFFFFFFFFFFFF", "FFFFFFFFFFFFFF7F", "000000000000F87F", "010000000000F07F", "000000000000F8FF",
-                                       "0000000000000000", "0000000000000080", "FEFFFFFFFFFFFFFF", "FFFFFFFF00000000", "00000000FFFFFFFF", "EFCDAB8967452301")]
+VALUES_4 = [bytes.fromhex(value) for value in (
+    "FFFFFFFF", "FFFFFF7F", "0000C07F", "0100807F", "0000C0FF", "0000807F", "00000000", "00000080", "FEFFFFFF", "78563412")]
+VALUES_8 = [bytes.fromhex(value) for value in (
+    "FFFFFFFFFFFFFFFF", "FFFFFFFFFFFFFF7F", "000000000000F87F", "010000000000F07F", "000000000000F8FF", "000000000000F07F",
+    "0000000000000000", "0000000000000080", "FEFFFFFFFFFFFFFF", "FFFFFFFF00000000", "00000000FFFFFFFF", "EFCDAB8967452301")]
 WIDTHS = [0, 1, 2, 3, 5, 6, 7, 9, 12, 16, 255, 2 ** 32 + 4, 2 ** 63 + 8, WIDEST]
 
 
@@ -130,7 +132,7 @@ def channel_of(rng):
     masks += [rng.randrange(2 ** 32) for _ in range(6)]
     for mask in masks:
         count = bin(mask).count("1")
-        for place in {0, 1, 2, 3, count, count + 1, 32, 33, WIDEST}:
+        for place in sorted({0, 1, 2, 3, count, count + 1, 32, 33, WIDEST}):
             yield [mask, place], [], 0
 
 

@@ -109,7 +109,8 @@ def send(rng):
     for place in range(12):
         for largest in (1, 3, 4, 5, 9, 10, 11, 240):
             yield *build({**good, "place": place, "largest": largest}), 0 if place < 10 else 34
-    for file, largest, place in ((1, 1, 0), (1, 240, 0), (240, 240, 0), (241, 240, 0), (241, 240, 240), (300, 240, 100), (300, 240, 60), (300, 239, 60)):
+    for file, largest, place in (
+            (1, 1, 0), (1, 240, 0), (240, 240, 0), (241, 240, 0), (241, 240, 240), (300, 240, 100), (300, 240, 60), (300, 239, 60)):
         for more in (-1, 0, 2):
             yield *build({**good, "file": file, "largest": largest, "place": place, "more": more}), 16 if more < 0 else 0
     for session in (0, 255, 256, 0xFFFF):
@@ -121,7 +122,7 @@ def send(rng):
 def receive(rng):
     def build(plan):
         return ([plan["own session"], plan["under way"], plan["count"]],
-                [frame({**plan, "flags": plan["flags"]}), pattern(plan["buffer"], 0x31)])
+                [frame(plan), pattern(plan["buffer"], 0x31)])
     going = {**GOOD, "own session": 0x0102, "under way": 1, "count": 6, "buffer": 20, "offset": 6, "flags": 0}
     idle = {**going, "under way": 0, "count": 0, "offset": 0, "flags": 2}
     order = list(range(20, 32))
