@@ -2,7 +2,8 @@
 from cases.making import changed, flipped, pattern, with_faults
 from crc import low_byte_first
 from printed import FRAMES
-from sm160 import frame_bytes, frame_crc
+from sm160 import END, START, frame_bytes, frame_crc
+from sm160 import receive as received
 
 WIDEST = 2 ** 64 - 1
 
@@ -119,7 +120,43 @@ def send(rng):
         yield *build({**good, "more": more}), 16 if more < 0 else 0
 
 
+def cut(rng, session, file):
+    """The frames of a file, cut anywhere into parts of 1 to 20 bytes."""
+    frames, place = [], 0
+    while place < len(file):
+        part = file[place:place + rng.randint(1, 20)]
+        flags = (START if place == 0 else 0) | (END if place + len(part) == len(file) else 0)
+        frames.append(frame_bytes(session, place, flags, part))
+        place += len(part)
+    return frames
+
+
+def disturbed(rng, frames, others):
+    """Frames as a bad line brings them: some lost, repeated, damaged, those of another file between, and cut off at last."""
+    came = []
+    for one in frames[:rng.randint(1, len(frames))]:
+        came += rng.choice(([one], [one], [one, one], [flipped(one, rng.randrange(8 * len(one)))], [one[:-1]], [], [rng.choice(others), one]))
+    return came
+
+
+def transfers(rng):
+    """Transfers frame by frame, each frame lent what the one before it left: two that go wrong, and then a clean one, which must arrive whole."""
+    for _ in range(12):
+        session, buffer = rng.choice((1, 0x0102, 0xFFFF)), pattern(rng.randint(20, 48), 0x31)
+        state = (session, False, 0)
+        for clean in (False, False, True):
+            file, other = (bytes(rng.randrange(256) for _ in range(rng.randint(1, len(buffer)))) for _ in range(2))
+            before = buffer
+            frames = cut(rng, session, file)
+            for one in frames if clean else disturbed(rng, frames, cut(rng, rng.choice((session, 7)), other)):
+                yield [state[0], int(state[1]), state[2]], [one, buffer], None
+                _, answer, state, buffer = received(state, one, buffer)
+            if clean:
+                assert answer == (True, len(file)) and buffer == file + before[len(file):]
+
+
 def receive(rng):
+    yield from transfers(rng)
     def build(plan):
         return ([plan["own session"], plan["under way"], plan["count"]],
                 [frame(plan), pattern(plan["buffer"], 0x31)])
