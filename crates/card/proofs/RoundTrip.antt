@@ -14,19 +14,21 @@ use Rattle.wire.proofs.Bools.{or-false, false-or}
 use Rattle.wire.proofs.Refusal.{none-first, first-none}
 use Rattle.bits.specs.Fields.{packed, unpacked, valuesFrom, total, Fit}
 use Rattle.bits.proofs.Fields.{packed-reads-back, packed-writes-again}
-use Rattle.date.specs.Date.{isDate}
+use Rattle.date.specs.Date.{isDate, Ranges}
 use Rattle.date.specs.declared.DateTime.{DateTime}
-use Rattle.reading.specs.Reading.{numberOf, kindFrom, readingOf, bitsOf, kindOf}
+use Rattle.reading.specs.Reading.{numberOf, kindFrom, readingOf, bitsOf, kindOf, FitsKind}
 use Rattle.reading.proofs.Laws.{kind-reads-back}
 use Rattle.reading.specs.declared.Reading.{Reading}
 use Rattle.card.specs.Layout.{cardWidths, cardFields, cardBytes, fieldOf, channelOf, timeOf, kindIn, valueBits, spareOf, cardOf}
 use Rattle.card.specs.Reading.{badAddress, badTime, upperHalfSet, readRules, cardAnswer, readCard}
-use Rattle.card.specs.Writing.{badChannel, writeRules, FitsKind}
+use Rattle.card.specs.Writing.{badChannel, writeRules}
 use Rattle.card.specs.declared.Card.{Card}
 use Rattle.card.specs.declared.CardRead.the-variants as R
 use Rattle.card.proofs.Answers.{length-card}
 use Rattle.card.proofs.Fields.{field-fits, shared}
-use Rattle.card.proofs.Parts.{Ranges, date-ranges, kind-number, number-below, kind-of-made, bits-of-made, made-again, fits-no-upper, fits-64}
+use Rattle.date.proofs.Laws.{date-ranges}
+use Rattle.reading.proofs.Laws.{kind-number, number-below, kind-of-made, made-again, fits-64}
+use Rattle.card.proofs.Parts.{bits-of-made, fits-no-upper}
 
 -- an address, a channel that is not refused
 address-most : (address : ℕ) → badAddress address ≡ false → address ≤ 99999999

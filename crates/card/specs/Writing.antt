@@ -1,13 +1,11 @@
 -- Writing a card: field faults by their numbers, then 16. A reading that is an enum cannot have 54.
 -- Assumes nothing.
-use Prim.Native.Nat.{ℕ, _<_, _^_}
+use Prim.Native.Nat.{ℕ}
 use mathlib.Core.Bool.{Bool, _||_}
 use mathlib.Core.List.{List, [], _∷_}
 use lib.Dec.{eqb, ltb}
 use lib.ListN.{length}
 use Rattle.wire.specs.Refusal.{Rule, _when_}
-use Rattle.reading.specs.Reading.{bitsOf, kindOf, widthOf}
-use Rattle.reading.specs.declared.Reading.{Reading}
 use Rattle.card.specs.Reading.{badAddress, badTime}
 use Rattle.card.specs.declared.Card.{Card}
 
@@ -26,7 +24,3 @@ writeRules c out =
     ∷ 55 when badChannel (c .channel)
     ∷ 16 when tooSmall out
     ∷ []
-
--- what the types of a reading's cases say: a 32-bit kind holds 32 bits, a 64-bit kind 64
-abbrev pub FitsKind : Reading → Type 0
-FitsKind r = bitsOf r < 256 ^ widthOf (kindOf r)

@@ -1,7 +1,7 @@
 -- A date written reads back, and six bytes read are written again; no date is none; both ends of the month.
 -- Assumes nothing.
 use mathlib.Core.Path.{_≡_, refl}
-use mathlib.Core.Bool.{true, false, _&&_}
+use mathlib.Core.Bool.{Bool, true, false, _&&_}
 use mathlib.Core.List.{List}
 use Prim.Native.Nat.{ℕ, _≤_}
 use native.Mathlib.Omega.{arith}
@@ -9,7 +9,7 @@ use lib.Dec.{eqb, leb}
 use borrow.Author.Tests.{eqb-true, ne-eqb, leb-true}
 use Rattle.wire.proofs.Bools.{and-true, false-and}
 use Rattle.wire.specs.Numbers.{field}
-use Rattle.date.specs.Date.{dateBytes, dateOf, within, isDate, noDate, isNoDate}
+use Rattle.date.specs.Date.{dateBytes, dateOf, within, isDate, noDate, isNoDate, Ranges}
 use Rattle.date.specs.declared.DateTime.{DateTime}
 
 pub date-reads-back : (d : DateTime) → dateOf (dateBytes d) ≡ d
@@ -32,12 +32,37 @@ pub month-13 : isDate (record { year = 0; month = 13; day = 31; hour = 23; minut
 unfolding isDate
 month-13 = refl
 
+all-six : (a b c d e f : Bool) → (a && b && c && d && e && f) ≡ true → (a ≡ true) × (b ≡ true) × (c ≡ true) × (d ≡ true) × (e ≡ true) × (f ≡ true)
+all-six a b c d e f h =
+    let t₅ = and-true (a && b && c && d && e) f h in
+    let t₄ = and-true (a && b && c && d) e (t₅ .0) in
+    let t₃ = and-true (a && b && c) d (t₄ .0) in
+    let t₂ = and-true (a && b) c (t₃ .0) in
+    let t₁ = and-true a b (t₂ .0) in
+    (t₁ .0, t₁ .1, t₂ .1, t₃ .1, t₄ .1, t₅ .1)
+
+most : (lowest n highest : ℕ) → within lowest n highest ≡ true → n ≤ highest
+most lowest n highest e = leb-true n highest (and-true (leb lowest n) (leb n highest) e .1)
+
+-- a date's numbers are within their ranges, by which callers know it
+pub date-ranges : (d : DateTime) → isDate d ≡ true → Ranges d
+unfolding isDate
+date-ranges d e =
+    let t = all-six (within 0 (d .year) 99) (within 1 (d .month) 12) (within 1 (d .day) 31) (within 0 (d .hour) 23) (within 0 (d .minute) 59) (within 0 (d .second) 59) e in
+    record {
+      year = most 0 (d .year) 99 (t .0);
+      month = most 1 (d .month) 12 (t .1);
+      day = most 1 (d .day) 31 (t .2);
+      hour = most 0 (d .hour) 23 (t .3);
+      minute = most 0 (d .minute) 59 (t .4);
+      second = most 0 (d .second) 59 (t .5);
+    }
+
 -- a date is not no date
 pub date-some : (d : DateTime) → isDate d ≡ true → isNoDate d ≡ false
-unfolding isDate isNoDate
+unfolding isNoDate
 date-some d e =
-    let year : within 0 (d .year) 99 ≡ true = and-true _ _ (and-true _ _ (and-true _ _ (and-true _ _ (and-true _ _ e .0) .0) .0) .0) .0 in
-    let low : d .year ≤ 99 = leb-true (d .year) 99 (and-true (leb 0 (d .year)) (leb (d .year) 99) year .1) in
+    let low = date-ranges d e .year in
     let not-255 : eqb (d .year) 255 ≡ false = ne-eqb (d .year) 255 (λ (h : d .year ≡ 255). omega arith) in
     false-and _ _ (false-and _ _ (false-and _ _ (false-and _ _ (false-and _ _ not-255))))
 
@@ -45,9 +70,5 @@ date-some d e =
 pub no-date-bytes : (d : DateTime) → isNoDate d ≡ true → dateBytes noDate ≡ dateBytes d
 unfolding isNoDate
 no-date-bytes d e =
-    let t₅ = and-true (eqb (d .year) 255 && eqb (d .month) 255 && eqb (d .day) 255 && eqb (d .hour) 255 && eqb (d .minute) 255) (eqb (d .second) 255) e in
-    let t₄ = and-true (eqb (d .year) 255 && eqb (d .month) 255 && eqb (d .day) 255 && eqb (d .hour) 255) (eqb (d .minute) 255) (t₅ .0) in
-    let t₃ = and-true (eqb (d .year) 255 && eqb (d .month) 255 && eqb (d .day) 255) (eqb (d .hour) 255) (t₄ .0) in
-    let t₂ = and-true (eqb (d .year) 255 && eqb (d .month) 255) (eqb (d .day) 255) (t₃ .0) in
-    let t₁ = and-true (eqb (d .year) 255) (eqb (d .month) 255) (t₂ .0) in
-    rw (eqb-true (d .year) 255 (t₁ .0), eqb-true (d .month) 255 (t₁ .1), eqb-true (d .day) 255 (t₂ .1), eqb-true (d .hour) 255 (t₃ .1), eqb-true (d .minute) 255 (t₄ .1), eqb-true (d .second) 255 (t₅ .1)) refl
+    let t = all-six (eqb (d .year) 255) (eqb (d .month) 255) (eqb (d .day) 255) (eqb (d .hour) 255) (eqb (d .minute) 255) (eqb (d .second) 255) e in
+    rw (eqb-true (d .year) 255 (t .0), eqb-true (d .month) 255 (t .1), eqb-true (d .day) 255 (t .2), eqb-true (d .hour) 255 (t .3), eqb-true (d .minute) 255 (t .4), eqb-true (d .second) 255 (t .5)) refl

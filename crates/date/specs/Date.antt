@@ -1,6 +1,6 @@
 -- DATETIME: year 0..99 (from 2000), month 1..12, day 1..31, hour 0..23, minute and second 0..59. Six bytes FF mean no date.
 -- Assumes nothing.
-use Prim.Native.Nat.{ℕ}
+use Prim.Native.Nat.{ℕ, _≤_}
 use mathlib.Core.Bool.{Bool, _&&_}
 use mathlib.Core.List.{List, [], _∷_}
 use lib.Dec.{leb, eqb}
@@ -39,3 +39,12 @@ isNoDate d =
     && eqb (d .hour) 255
     && eqb (d .minute) 255
     && eqb (d .second) 255
+
+-- no number of a date is above its range
+pub record Ranges (d : DateTime) : Type 0 where
+  pub year : d .year ≤ 99
+  pub month : d .month ≤ 12
+  pub day : d .day ≤ 31
+  pub hour : d .hour ≤ 23
+  pub minute : d .minute ≤ 59
+  pub second : d .second ≤ 59

@@ -15,7 +15,7 @@ use Rattle.wire.specs.Refusal.{first, FirstInOrder}
 use Rattle.wire.proofs.Bools.{and-true}
 use Rattle.wire.proofs.Numbers.{number-lt}
 use Rattle.wire.proofs.Refusal.{refusal-law}
-use Rattle.reading.specs.Reading.{widthOf, numberOf, kindFrom, readingOf, bitsOf, kindOf, isAbsent, same, valueRules}
+use Rattle.reading.specs.Reading.{widthOf, numberOf, kindFrom, readingOf, bitsOf, kindOf, isAbsent, same, FitsKind, valueRules}
 use Rattle.reading.specs.Values.{placeRules, searchRules, allFF}
 use Rattle.reading.specs.declared.Kind.{Kind}
 use Rattle.reading.specs.declared.Kind.the-variants as K
@@ -28,6 +28,39 @@ kind-reads-back K.F32 = refl
 kind-reads-back K.F64 = refl
 kind-reads-back K.U32 = refl
 kind-reads-back K.U64 = refl
+
+-- a kind's number and its kind
+pub kind-number : (n : ℕ) → n < 4 → numberOf (kindFrom n) ≡ n
+kind-number zero h = refl
+kind-number (suc zero) h = refl
+kind-number (suc (suc zero)) h = refl
+kind-number (suc (suc (suc zero))) h = refl
+kind-number (suc (suc (suc (suc n)))) h = absurd (omega arith)
+
+pub number-below : (k : Kind) → numberOf k < 4
+number-below K.F32 = omega arith
+number-below K.F64 = omega arith
+number-below K.U32 = omega arith
+number-below K.U64 = omega arith
+
+-- a reading from its kind and bits
+pub kind-of-made : (k : Kind) (n : ℕ) → kindOf (readingOf k n) ≡ k
+kind-of-made K.F32 n = refl
+kind-of-made K.F64 n = refl
+kind-of-made K.U32 n = refl
+kind-of-made K.U64 n = refl
+
+pub made-again : (r : Reading) → FitsKind r → readingOf (kindOf r) (bitsOf r) ≡ r
+made-again (F32 n) h = ap F32 (mod-eq-of-lt h)
+made-again (F64 n) h = refl
+made-again (U32 n) h = ap U32 (mod-eq-of-lt h)
+made-again (U64 n) h = refl
+
+pub fits-64 : (r : Reading) → FitsKind r → bitsOf r < 2 ^ 64
+fits-64 (F32 n) h = omega arith
+fits-64 (F64 n) h = h
+fits-64 (U32 n) h = omega arith
+fits-64 (U64 n) h = h
 
 -- ---- sameness
 
