@@ -73,6 +73,10 @@ pub length-be : (w v : ℕ) → length (be w v) ≡ w
 unfolding be
 length-be w v = length-reverse (digits 256 w v) ∙ length-digits 256 w v
 
+pub be-bytes : (w v : ℕ) → Bytes (be w v)
+unfolding be
+be-bytes w v = each-reverse (λ b. b < 256) (digits 256 w v) (digits-below 256 (lit< tt) w v)
+
 pub ofBe-be : (w v : ℕ) → v < 256 ^ w → ofBe (be w v) ≡ v
 unfolding be ofBe
 ofBe-be w v h = ap (number 256) (reverse-reverse (digits 256 w v)) ∙ number-digits 256 (lit< tt) w v h
