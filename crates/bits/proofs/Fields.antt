@@ -2,18 +2,18 @@
 -- Assumes nothing.
 use mathlib.Core.Path.{_≡_, refl, sym, ap, ap₂, _∙_}
 use mathlib.Core.List.{List, [], _∷_, _++_, append-assoc, append-nil}
-use Prim.Native.Nat.{ℕ, zero, suc, _+_, _*_, _≤_, _<_}
+use Prim.Native.Nat.{ℕ, zero, suc, _+_, _*_, _^_, _≤_, _<_}
 use native.Mathlib.Nat.{add-zero, add-assoc, le-of-eq}
 use native.Mathlib.Omega.{arith}
-use lib.ListN.{length, getD, take, drop, length-append, List·getD-append}
-use lib.Seq.{take-all, take-append-le}
+use lib.ListN.{length, getD, take, drop, length-append}
+use lib.Seq.{take-all}
 use Rattle.wire.specs.Numbers.{number, field}
 use Rattle.wire.specs.Each.{Each, Bytes}
 use Rattle.wire.proofs.Each.{each-append}
 use Rattle.wire.proofs.Fields.{length-field, field-take, field-at, field-append}
-use Rattle.bits.specs.Bits.{Bit, bits, ofBits, bitsOf, bytesOf}
+use Rattle.bits.specs.Bits.{Bit, bits, ofBits, bitsIn, bytesOf}
 use Rattle.bits.specs.Fields.{joined, packed, valuesFrom, unpacked, total, Fit}
-use Rattle.bits.proofs.Bits.{length-bits, bits-below, ofBits-bits, bits-ofBits, bitsOf-below, length-bitsOf, bitsOf-bytesOf, bytesOf-bitsOf, field-below, field-lt}
+use Rattle.bits.proofs.Bits.{length-bits, bits-below, ofBits-bits, bits-ofBits, bitsIn-below, length-bitsIn, bitsIn-bytesOf, bytesOf-bitsIn, field-below, field-lt}
 
 pub length-joined : (ws vs : List ℕ) → length (joined ws vs) ≡ total ws
 unfolding joined total
@@ -36,21 +36,9 @@ value-of (w ∷ ws) at zero bs = ap (λ (n : ℕ). ofBits (field bs n w)) (sym (
 value-of (w ∷ ws) at (suc k) bs =
     value-of ws (at + w) k bs ∙ ap (λ (n : ℕ). ofBits (field bs n (getD ws k 0))) (add-assoc at w (total (take k ws)))
 
--- fields that come after others leave those as they are
-pub unpacked-front : (ws xs s : List ℕ) (k : ℕ) → k < length ws → getD (unpacked (ws ++ xs) s) k 0 ≡ getD (unpacked ws s) k 0
-unpacked-front ws xs s k h =
-    value-of (ws ++ xs) 0 k (bitsOf s)
-    ∙ ap₂ (λ (l : List ℕ) (w : ℕ). ofBits (field (bitsOf s) (0 + total l) w)) (take-append-le k ws xs (omega arith)) (List·getD-append ws xs 0 k h)
-    ∙ sym (value-of ws 0 k (bitsOf s))
-
--- each value fits its width
-values-fit : (ws : List ℕ) (at : ℕ) (bs : List ℕ) → Each Bit bs → Fit ws (valuesFrom ws at bs)
-unfolding valuesFrom
-values-fit [] at bs h = tt
-values-fit (w ∷ ws) at bs h = (field-lt bs at w h, values-fit ws (at + w) bs h)
-
-pub unpacked-fit : (ws s : List ℕ) → Fit ws (unpacked ws s)
-unpacked-fit ws s = values-fit ws 0 (bitsOf s) (bitsOf-below s)
+-- it fits its width
+pub value-fits : (ws s : List ℕ) (k : ℕ) → getD (unpacked ws s) k 0 < 2 ^ getD ws k 0
+value-fits ws s k = rw (value-of ws 0 k (bitsIn s)) (field-lt (bitsIn s) _ (getD ws k 0) (bitsIn-below s))
 
 -- joined values, between p and r, read again
 values-joined : (ws vs p r : List ℕ) (at : ℕ) → length p ≡ at → Fit ws vs → valuesFrom ws at (p ++ (joined ws vs ++ r)) ≡ vs
@@ -82,17 +70,17 @@ joined-values (w ∷ ws) at bs h =
 -- values that fit, packed into bytes that their widths fill
 pub packed-reads-back : (n : ℕ) (ws vs : List ℕ) → Fit ws vs → total ws ≡ 8 * n → unpacked ws (packed n ws vs) ≡ vs
 packed-reads-back n ws vs fit e =
-    ap (valuesFrom ws 0) (bitsOf-bytesOf n (joined ws vs) (joined-below ws vs) (length-joined ws vs ∙ e) ∙ sym (append-nil (joined ws vs)))
+    ap (valuesFrom ws 0) (bitsIn-bytesOf n (joined ws vs) (joined-below ws vs) (length-joined ws vs ∙ e) ∙ sym (append-nil (joined ws vs)))
     ∙ values-joined ws vs [] [] 0 refl fit
 
 -- bytes that the widths fill
 pub packed-writes-again : (ws s : List ℕ) → Bytes s → total ws ≡ 8 * length s → packed (length s) ws (unpacked ws s) ≡ s
 packed-writes-again ws s h e =
-    let bs = bitsOf s in
-    let l : length bs ≡ total ws = length-bitsOf s ∙ sym e in
+    let bs = bitsIn s in
+    let l : length bs ≡ total ws = length-bitsIn s ∙ sym e in
     let within : 0 + total ws ≤ length bs = omega arith in
     ap (bytesOf (length s))
-    (joined-values ws 0 bs (bitsOf-below s)
+    (joined-values ws 0 bs (bitsIn-below s)
     ∙ field-take bs 0 (total ws) within
     ∙ take-all (total ws) bs (le-of-eq l))
-    ∙ bytesOf-bitsOf s h
+    ∙ bytesOf-bitsIn s h

@@ -1,4 +1,6 @@
 pub mod Bits
 pub mod Fields
-pub mod Turns
+pub mod Cut
+pub mod Read
+pub mod Write
 pub mod Unique

@@ -17,9 +17,9 @@ unfoldable pub ofBits : List ℕ → ℕ
 ofBits bs = number 2 (reverse bs)
 
 -- the bits of bytes, and the n bytes that bits say
-unfoldable pub bitsOf : List ℕ → List ℕ
-bitsOf [] = []
-bitsOf (b ∷ bs) = bits 8 b ++ bitsOf bs
+unfoldable pub bitsIn : List ℕ → List ℕ
+bitsIn [] = []
+bitsIn (b ∷ bs) = bits 8 b ++ bitsIn bs
 
 unfoldable pub bytesOf : ℕ → List ℕ → List ℕ
 bytesOf zero bs = []

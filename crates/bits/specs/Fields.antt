@@ -5,7 +5,7 @@ use Prim.Native.Nat.{ℕ, _+_, _^_, _<_}
 use mathlib.Core.List.{List, [], _∷_, _++_}
 use lib.ListN.{getD, drop}
 use Rattle.wire.specs.Numbers.{field}
-use Rattle.bits.specs.Bits.{bits, ofBits, bitsOf, bytesOf}
+use Rattle.bits.specs.Bits.{bits, ofBits, bitsIn, bytesOf}
 
 -- the bits of the fields' values, joined; a value that is missing is 0
 unfoldable pub joined : List ℕ → List ℕ → List ℕ
@@ -23,7 +23,7 @@ valuesFrom (w ∷ ws) at bs = ofBits (field bs at w) ∷ valuesFrom ws (at + w) 
 
 -- the values of the fields of bytes
 abbrev pub unpacked : List ℕ → List ℕ → List ℕ
-unpacked ws s = valuesFrom ws 0 (bitsOf s)
+unpacked ws s = valuesFrom ws 0 (bitsIn s)
 
 -- how many bits the fields have
 unfoldable pub total : List ℕ → ℕ

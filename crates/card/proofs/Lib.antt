@@ -1,6 +1,7 @@
 pub mod Fields
-pub mod Answers
+pub mod Written
 pub mod Parts
+pub mod Form
 pub mod RoundTrip
 pub mod Unique
 pub mod Order

@@ -1,4 +1,4 @@
--- Both sides of the edges of a card: 01's, and by length; and of writing.
+-- 01's edge of a card; and beside it both sides of the edges by length, and of writing.
 -- Assumes nothing.
 use Prim.Native.Nat.{ℕ}
 use mathlib.Core.List.{List, [], _∷_, _++_}
@@ -12,7 +12,7 @@ use Rattle.card.specs.Reading.{readCard, toldCardRead}
 use Rattle.card.specs.Writing.{writeRules}
 use Rattle.card.specs.declared.Card.{Card}
 
--- the card that 01 prints
+-- the card that 01 prints: "Input 00 00 00 20 00 21 00 00 40 00 00 00 00 00 00 00 A0 gives exactly"
 abbrev pub printed : List ℕ
 printed =
     0x00 ∷ 0x00 ∷ 0x00 ∷ 0x20 ∷ 0x00 ∷ 0x21 ∷ 0x00 ∷ 0x00 ∷ 0x40 ∷ 0x00 ∷ 0x00 ∷ 0x00 ∷ 0x00 ∷ 0x00 ∷ 0x00 ∷ 0x00 ∷ 0xA0 ∷ []
@@ -29,10 +29,13 @@ reading s = toldCardRead (readCard s)
 abbrev pub writing : Card → List ℕ → Told
 writing c out = toldWritten (writeAnswer (first (writeRules c out)) (cardBytes c))
 
+-- the card above, read
 abbrev pub cardEdges : List Edge
-cardEdges =
-    reading printed gives accepted (1 ∷ 1 ∷ 0 ∷ 1 ∷ 1 ∷ 0 ∷ 0 ∷ 0 ∷ 2 ∷ 5 ∷ [])
-    ∷ reading (drop 1 printed) gives refused 50
+cardEdges = reading printed gives accepted (1 ∷ 1 ∷ 0 ∷ 1 ∷ 1 ∷ 0 ∷ 0 ∷ 0 ∷ 2 ∷ 5 ∷ []) ∷ []
+
+abbrev pub cardBeside : List Edge
+cardBeside =
+    reading (drop 1 printed) gives refused 50
     ∷ reading (printed ++ (0 ∷ [])) gives refused 50
     ∷ writing (changed 1 1 1) printed gives accepted (17 ∷ [])
     ∷ writing (changed 99999999 32 12) printed gives accepted (17 ∷ [])

@@ -1,17 +1,18 @@
 -- Reading a card: 50 to 54, in the order of their numbers.
 -- Assumes nothing.
-use Prim.Native.Nat.{ℕ, zero, suc, _/_, _^_}
+use Prim.Native.Nat.{ℕ, _/_, _^_}
 use mathlib.Core.Bool.{Bool, not, _&&_, _||_}
 use mathlib.Core.List.{List, [], _∷_, _++_}
 use lib.Dec.{eqb, ltb}
 use lib.ListN.{length}
 use Rattle.wire.specs.Refusal.{Rule, _when_, first}
+use Rattle.wire.specs.Answer.{answered}
 use Rattle.wire.specs.Told.{Told, accepted, refused}
 use Rattle.date.specs.Date.{dateBytes, isDate}
 use Rattle.date.specs.declared.DateTime.{DateTime}
 use Rattle.reading.specs.Reading.{numberOf, bitsOf, kindOf, widthOf}
 use Rattle.reading.specs.declared.Kind.{Kind}
-use Rattle.card.specs.Layout.{addressOf, timeOf, kindIn, valueBits, spareOf, cardOf}
+use Rattle.card.specs.Layout.{addressOf, timeOf, valueKind, valueBits, spareOf, cardOf}
 use Rattle.card.specs.declared.Card.{Card}
 use Rattle.card.specs.declared.CardRead.{CardRead}
 use Rattle.card.specs.declared.CardRead.the-variants as R
@@ -36,22 +37,20 @@ badTime time = not (isDate time)
 abbrev pub upperHalfSet : Kind → ℕ → Bool
 upperHalfSet kind bits = eqb (widthOf kind) 4 && not (eqb (bits / 2 ^ 32) 0)
 
-abbrev pub readRules : List ℕ → List Rule
-readRules s =
-    50 when otherLength s
-    ∷ 51 when spareSet s
-    ∷ 52 when badAddress (addressOf s)
+-- of the fields that every form has
+abbrev pub fieldRules : List ℕ → List Rule
+fieldRules s =
+    52 when badAddress (addressOf s)
     ∷ 53 when badTime (timeOf s)
-    ∷ 54 when upperHalfSet (kindIn s) (valueBits s)
+    ∷ 54 when upperHalfSet (valueKind s) (valueBits s)
     ∷ []
 
--- the answer where the refusal is n (0 for none)
-abbrev pub cardAnswer : ℕ → List ℕ → CardRead
-cardAnswer zero s = R.Card (cardOf s)
-cardAnswer (suc n) s = R.Refused (suc n)
+-- "Order is by number"
+abbrev pub readRules : List ℕ → List Rule
+readRules s = 50 when otherLength s ∷ 51 when spareSet s ∷ fieldRules s
 
 unfoldable pub readCard : List ℕ → CardRead
-readCard s = cardAnswer (first (readRules s)) s
+readCard s = answered R.Refused (R.Card (cardOf s)) (first (readRules s))
 
 -- address, channel, the six numbers of the time, kind, bits
 abbrev pub toldCardRead : CardRead → Told

@@ -2,25 +2,29 @@
 -- Assumes nothing.
 use Prim.Native.Nat.{ℕ}
 use mathlib.Core.Bool.{Bool, _||_}
-use mathlib.Core.List.{List, [], _∷_}
+use mathlib.Core.List.{List, [], _∷_, _++_}
 use lib.Dec.{eqb, ltb}
 use lib.ListN.{length}
 use Rattle.wire.specs.Refusal.{Rule, _when_}
 use Rattle.card.specs.Reading.{badAddress, badTime}
 use Rattle.card.specs.declared.Card.{Card}
 
--- 55 channel not 1..32
+-- 55 channel not 1..32 (writing only)
 abbrev pub badChannel : ℕ → Bool
 badChannel channel = eqb channel 0 || ltb 32 channel
+
+-- of the fields that every form has
+abbrev pub cardRules : Card → List Rule
+cardRules c =
+    52 when badAddress (c .address)
+    ∷ 53 when badTime (c .time)
+    ∷ 55 when badChannel (c .channel)
+    ∷ []
 
 -- 16 output shorter than needed
 abbrev pub tooSmall : List ℕ → Bool
 tooSmall out = ltb (length out) 17
 
+-- "writing, field faults first .. then 16"
 abbrev pub writeRules : Card → List ℕ → List Rule
-writeRules c out =
-    52 when badAddress (c .address)
-    ∷ 53 when badTime (c .time)
-    ∷ 55 when badChannel (c .channel)
-    ∷ 16 when tooSmall out
-    ∷ []
+writeRules c out = cardRules c ++ (16 when tooSmall out ∷ [])

@@ -3,15 +3,18 @@ use date::DateTime;
 use reading::Reading;
 use wire::Written;
 ghost use mathlib.Core.Path.{_≡_};
-ghost use Prim.Native.Nat.{_-_, _<_};
+ghost use Prim.Native.Nat.{_<_};
 ghost use lib.ListN.{getD};
 ghost use lib.Seq.{sets};
 ghost use Rattle.wire.specs.Refusal.{first};
 ghost use Rattle.wire.specs.Writes.{Writes};
-ghost use Rattle.bits.specs.Fields.{unpacked};
-ghost use Rattle.card.specs.Layout.{cardWidths, cardBytes, addressOf, channelOf, timeOf, kindIn, valueBits, cardOf};
-ghost use Rattle.card.specs.Reading.{otherLength, spareSet, badAddress, badTime, upperHalfSet, readRules, readCard};
-ghost use Rattle.card.specs.Writing.{badChannel, tooSmall, writeRules};
+ghost use Rattle.bits.specs.Fields.{packed};
+ghost use Rattle.card.specs.Layout.{fieldWidths, fields, cardBytes, fieldOf, addressOf, channelNumber, timeOf, valueKind, valueBits, cardOf};
+ghost use Rattle.card.specs.Reading.{otherLength, spareSet, badAddress, badTime, upperHalfSet, fieldRules, readRules, readCard};
+ghost use Rattle.card.specs.Writing.{badChannel, tooSmall, cardRules, writeRules};
+
+// The ten fields that every form of the card begins with; and with them the spare bits.
+const FIELDS: [u8; 10] = [27, 5, 7, 4, 5, 5, 6, 6, 2, 64];
 
 const WIDTHS: [u8; 11] = [27, 5, 7, 4, 5, 5, 6, 6, 2, 64, 5];
 
@@ -29,16 +32,16 @@ pub enum CardRead {
 
 // The field with k fields before it.
 fn field(bytes: &[u8], k: u8) -> u64
-    ensures { λ r. ⌜ r ≡ getD (unpacked cardWidths (now (bytes .entry))) k 0 ⌝ }
+    ensures { λ r. ⌜ r ≡ fieldOf k (now (bytes .entry)) ⌝ }
 {
-    let widths = WIDTHS;
+    let widths = FIELDS;
     bits::field_at(bytes, &widths, k)
 }
 
-// A field of at most eight bits.
-fn small(bytes: &[u8], k: u8) -> u8
-    requires { ⌜ getD cardWidths k 0 < 9 ⌝ }
-    ensures { λ r. ⌜ r ≡ getD (unpacked cardWidths (now (bytes .entry))) k 0 ⌝ }
+// One of at most eight bits.
+fn byte_field(bytes: &[u8], k: u8) -> u8
+    requires { ⌜ getD fieldWidths k 0 < 9 ⌝ }
+    ensures { λ r. ⌜ r ≡ fieldOf k (now (bytes .entry)) ⌝ }
 {
     field(bytes, k) as u8
 }
@@ -49,29 +52,29 @@ fn address_of(bytes: &[u8]) -> u32
     field(bytes, 0) as u32
 }
 
-fn channel_of(bytes: &[u8]) -> u8
-    ensures { λ r. ⌜ r ≡ channelOf (now (bytes .entry)) ⌝ }
+fn channel_number(bytes: &[u8]) -> u8
+    ensures { λ r. ⌜ r ≡ channelNumber (now (bytes .entry)) ⌝ }
 {
-    small(bytes, 1) + 1
+    byte_field(bytes, 1) + 1
 }
 
 fn time_of(bytes: &[u8]) -> DateTime
     ensures { λ r. ⌜ r ≡ timeOf (now (bytes .entry)) ⌝ }
 {
     DateTime {
-        year: small(bytes, 2),
-        month: small(bytes, 3),
-        day: small(bytes, 4),
-        hour: small(bytes, 5),
-        minute: small(bytes, 6),
-        second: small(bytes, 7),
+        year: byte_field(bytes, 2),
+        month: byte_field(bytes, 3),
+        day: byte_field(bytes, 4),
+        hour: byte_field(bytes, 5),
+        minute: byte_field(bytes, 6),
+        second: byte_field(bytes, 7),
     }
 }
 
-fn kind_in(bytes: &[u8]) -> reading::Kind
-    ensures { λ r. ⌜ r ≡ kindIn (now (bytes .entry)) ⌝ }
+fn value_kind(bytes: &[u8]) -> reading::Kind
+    ensures { λ r. ⌜ r ≡ valueKind (now (bytes .entry)) ⌝ }
 {
-    reading::kind_from(small(bytes, 8))
+    reading::kind_from(byte_field(bytes, 8))
 }
 
 fn value_bits(bytes: &[u8]) -> u64
@@ -89,7 +92,8 @@ fn other_length(bytes: &[u8]) -> bool
 fn spare_set(bytes: &[u8]) -> bool
     ensures { λ r. ⌜ r ≡ spareSet (now (bytes .entry)) ⌝ }
 {
-    small(bytes, 10) != 0
+    let widths = WIDTHS;
+    bits::field_at(bytes, &widths, 10) != 0
 }
 
 fn bad_address(address: u32) -> bool
@@ -123,21 +127,15 @@ fn time_refused(bytes: &[u8]) -> bool
 }
 
 fn value_refused(bytes: &[u8]) -> bool
-    ensures { λ r. ⌜ r ≡ upperHalfSet (kindIn (now (bytes .entry))) (valueBits (now (bytes .entry))) ⌝ }
+    ensures { λ r. ⌜ r ≡ upperHalfSet (valueKind (now (bytes .entry))) (valueBits (now (bytes .entry))) ⌝ }
 {
-    upper_half_set(kind_in(bytes), value_bits(bytes))
+    upper_half_set(value_kind(bytes), value_bits(bytes))
 }
 
-// The number of the first rule that holds, 0 where none does.
-fn judge(bytes: &[u8]) -> u8
-    ensures { λ r. ⌜ r ≡ first (readRules (now (bytes .entry))) ⌝ }
+// The number of the first rule that holds, 0 where none does: of the fields that every form has, and of this form.
+fn judge_fields(bytes: &[u8]) -> u8
+    ensures { λ r. ⌜ r ≡ first (fieldRules (now (bytes .entry))) ⌝ }
 {
-    if other_length(bytes) {
-        return 50;
-    }
-    if spare_set(bytes) {
-        return 51;
-    }
     if address_refused(bytes) {
         return 52;
     }
@@ -150,14 +148,26 @@ fn judge(bytes: &[u8]) -> u8
     0
 }
 
+fn judge(bytes: &[u8]) -> u8
+    ensures { λ r. ⌜ r ≡ first (readRules (now (bytes .entry))) ⌝ }
+{
+    if other_length(bytes) {
+        return 50;
+    }
+    if spare_set(bytes) {
+        return 51;
+    }
+    judge_fields(bytes)
+}
+
 fn card_of(bytes: &[u8]) -> Card
     ensures { λ r. ⌜ r ≡ cardOf (now (bytes .entry)) ⌝ }
 {
     let time = time_of(bytes);
-    let value = reading::of_bits(kind_in(bytes), value_bits(bytes));
+    let value = reading::of_bits(value_kind(bytes), value_bits(bytes));
     Card {
         address: address_of(bytes),
-        channel: channel_of(bytes),
+        channel: channel_number(bytes),
         time,
         value,
     }
@@ -185,56 +195,71 @@ fn too_small(out: &[u8]) -> bool
     out.len() < 17
 }
 
-fn wide(b: u8) -> u64
-    ensures { λ r. ⌜ r ≡ b ⌝ }
+// The number of the first rule that any form refuses a card by, 0 where none does.
+fn judge_card(card: Card) -> u8
+    ensures { λ r. ⌜ r ≡ first (cardRules card) ⌝ }
 {
-    b as u64
-}
-
-fn less_one(channel: u8) -> u64
-    ensures { λ r. ⌜ r ≡ channel - 1 ⌝ }
-{
-    if channel == 0 {
-        0
-    } else {
-        (channel - 1) as u64
+    let time = card.time;
+    if bad_address(card.address) {
+        return 52;
     }
+    if bad_time(time) {
+        return 53;
+    }
+    if bad_channel(card.channel) {
+        return 55;
+    }
+    0
 }
 
-fn put_card(card: Card, out: &mut [u8])
-    ensures { λ _. ⌜ now (out .exit) ≡ sets (now (out .entry)) 0 (cardBytes card) ⌝ }
+// 17 bytes are two words and a byte.
+fn put_bytes(out: &mut [u8], widths: &[u8], values: &[u64])
+    ensures { λ _. ⌜ now (out .exit) ≡ sets (now (out .entry)) 0 (packed 17 (now (widths .entry)) (now (values .entry))) ⌝ }
+{
+    bits::put_word(out, 0, bits::word_before(widths, values, 64));
+    bits::put_word(out, 8, bits::word_before(widths, values, 128));
+    wire::put(
+        out,
+        16,
+        (bits::word_before(widths, values, 136) % 256) as u8,
+    );
+}
+
+// The ten fields of a card, in their order.
+fn field_values(card: Card) -> [u64; 10]
+    ensures { λ r. ⌜ r ≡ fields card ⌝ }
 {
     let time = card.time;
     let value = card.value;
-    let widths = WIDTHS;
-    let values = [
+    [
         card.address as u64,
-        less_one(card.channel),
-        wide(time.year),
-        wide(time.month),
-        wide(time.day),
-        wide(time.hour),
-        wide(time.minute),
-        wide(time.second),
-        wide(reading::number_of(reading::kind_of(value))),
+        wire::minus(card.channel as usize, 1) as u64,
+        time.year as u64,
+        time.month as u64,
+        time.day as u64,
+        time.hour as u64,
+        time.minute as u64,
+        time.second as u64,
+        reading::number_of(reading::kind_of(value)) as u64,
         reading::bits(value),
-        0,
-    ];
-    bits::put_fields(out, 17, &widths, &values);
+    ]
+}
+
+// The spare bits have no value, and so are 0.
+fn put_card(card: Card, out: &mut [u8])
+    ensures { λ _. ⌜ now (out .exit) ≡ sets (now (out .entry)) 0 (cardBytes card) ⌝ }
+{
+    let widths = WIDTHS;
+    let values = field_values(card);
+    put_bytes(out, &widths, &values);
 }
 
 pub fn write_card(card: Card, out: &mut [u8]) -> Written
     ensures { λ r. ⌜ Writes (first (writeRules card (now (out .entry)))) (cardBytes card) (now (out .entry)) r (now (out .exit)) ⌝ }
 {
-    let time = card.time;
-    if bad_address(card.address) {
-        return Written::Refused(52);
-    }
-    if bad_time(time) {
-        return Written::Refused(53);
-    }
-    if bad_channel(card.channel) {
-        return Written::Refused(55);
+    let refusal = judge_card(card);
+    if refusal != 0 {
+        return Written::Refused(refusal);
     }
     if too_small(out) {
         return Written::Refused(16);

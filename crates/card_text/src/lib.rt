@@ -58,22 +58,16 @@ fn plain_width(n: u8) -> usize
     3
 }
 
-fn wide(b: u8) -> u64
-    ensures { λ r. ⌜ r ≡ b ⌝ }
-{
-    b as u64
-}
-
 fn put_time(out: &mut [u8], at: usize, time: DateTime) -> usize
     requires { ⌜ at < 64 ⌝ }
     ensures { λ r. ⌜ Stored (now (out .entry)) at (timeText time ++ ascii ";") (now (out .exit)) r × (r ≤ at + 102) ⌝ }
 {
-    let month = put_field(out, at, 10, 4, 2000 + wide(time.year), b'-');
-    let day = put_field(out, month, 10, 2, wide(time.month), b'-');
-    let hour = put_field(out, day, 10, 2, wide(time.day), b' ');
-    let minute = put_field(out, hour, 10, 2, wide(time.hour), b':');
-    let second = put_field(out, minute, 10, 2, wide(time.minute), b':');
-    put_field(out, second, 10, 2, wide(time.second), b';')
+    let month = put_field(out, at, 10, 4, 2000 + time.year as u64, b'-');
+    let day = put_field(out, month, 10, 2, time.month as u64, b'-');
+    let hour = put_field(out, day, 10, 2, time.day as u64, b' ');
+    let minute = put_field(out, hour, 10, 2, time.hour as u64, b':');
+    let second = put_field(out, minute, 10, 2, time.minute as u64, b':');
+    put_field(out, second, 10, 2, time.second as u64, b';')
 }
 
 fn put_card(out: &mut [u8], card: Card) -> usize
@@ -87,7 +81,7 @@ fn put_card(out: &mut [u8], card: Card) -> usize
         channel,
         10,
         plain_width(card.channel),
-        wide(card.channel),
+        card.channel as u64,
         b';',
     );
     let kind = put_time(out, start, time);
@@ -96,7 +90,7 @@ fn put_card(out: &mut [u8], card: Card) -> usize
         kind,
         10,
         1,
-        wide(reading::number_of(reading::kind_of(value))),
+        reading::number_of(reading::kind_of(value)) as u64,
         b';',
     );
     put_field(out, bits, 16, 16, reading::bits(value), b'\n')
@@ -106,7 +100,7 @@ fn put_refused(out: &mut [u8], n: u8) -> usize
     ensures { λ r. ⌜ Stored (now (out .entry)) 0 (refusedLine n) (now (out .exit)) r ⌝ }
 {
     wire::put_all(out, 0, b"refused ");
-    put_field(out, 8, 10, plain_width(n), wide(n), b'\n')
+    put_field(out, 8, 10, plain_width(n), n as u64, b'\n')
 }
 
 fn make_line(out: &mut [u8], read: CardRead) -> usize
@@ -206,6 +200,17 @@ fn are_longer(cards: &[u8], n: usize, room: usize) -> bool
     false
 }
 
+// The same. A line has at most 52 bytes, so where there is that much for each card no card is read for it.
+fn lack_room(cards: &[u8], n: usize, room: usize) -> bool
+    requires { ⌜ n ≤ cardCount (now cards) ⌝ }
+    ensures { λ r. ⌜ r ≡ ltb room (length (linesOf n (now (cards .entry)))) ⌝ }
+{
+    if n <= room / 52 {
+        return false;
+    }
+    are_longer(cards, n, room)
+}
+
 // The lines of the first n cards, over the front; the answer is their length.
 fn fill(out: &mut [u8], cards: &[u8], n: usize) -> usize
     requires { ⌜ (n ≤ cardCount (now cards)) × (length (linesOf n (now cards)) ≤ length (now out)) ⌝ }
@@ -225,7 +230,7 @@ pub fn put_lines(cards: &[u8], out: &mut [u8]) -> Written
     ensures { λ r. ⌜ Writes (first (roomRules (lines (now (cards .entry))) (now (out .entry)))) (lines (now (cards .entry))) (now (out .entry)) r (now (out .exit)) ⌝ }
 {
     let n = card_count(cards);
-    if are_longer(cards, n, out.len()) {
+    if lack_room(cards, n, out.len()) {
         return Written::Refused(16);
     }
     Written::Length(fill(out, cards, n))

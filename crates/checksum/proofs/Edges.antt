@@ -1,10 +1,10 @@
 -- The edges of the checksum hold, computed.
 -- Assumes nothing.
 use mathlib.Core.Path.{refl}
-use Rattle.wire.specs.Told.{Holds}
+use Rattle.wire.specs.Told.{AllHold}
 use Rattle.checksum.specs.Crc.{crcBits, crcFrom}
 use Rattle.checksum.specs.Edges.{checksumEdges}
 
-pub checksum-edges : Holds checksumEdges
+pub checksum-edges : AllHold checksumEdges
 unfolding crcFrom crcBits
 checksum-edges = (refl, (refl, (refl, tt)))

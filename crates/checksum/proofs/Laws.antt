@@ -8,7 +8,7 @@ use native.Mathlib.Nat.{mul-one, mul-assoc, add-zero, pow-suc}
 use lib.Bits.{bitXor, xor-lt, xor-block, xor-self, xor-zero-r}
 use Rattle.wire.specs.Each.{Bytes}
 use Rattle.wire.specs.Numbers.{le, digits}
-use Rattle.checksum.specs.Crc.{crcBit, crcBits, crcByte, crcFrom, crc}
+use Rattle.checksum.specs.Crc.{crcBit, crcBits, crcByte, crcFrom}
 
 -- one stretch after the other
 pub crcFrom-append : (c : ℕ) (xs ys : List ℕ) → crcFrom c (xs ++ ys) ≡ crcFrom (crcFrom c xs) ys

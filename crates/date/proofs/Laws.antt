@@ -7,7 +7,7 @@ use Prim.Native.Nat.{ℕ, _≤_}
 use native.Mathlib.Omega.{arith}
 use lib.Dec.{eqb, leb}
 use borrow.Author.Tests.{eqb-true, ne-eqb, leb-true}
-use Rattle.wire.proofs.Bools.{and-true, false-and}
+use Rattle.wire.proofs.Bools.{and-both, no-and}
 use Rattle.wire.specs.Numbers.{field}
 use Rattle.date.specs.Date.{dateBytes, dateOf, within, isDate, noDate, isNoDate, Ranges}
 use Rattle.date.specs.declared.DateTime.{DateTime}
@@ -24,6 +24,10 @@ pub no-date : isDate noDate ≡ false
 unfolding isDate
 no-date = refl
 
+pub no-date-is : isNoDate noDate ≡ true
+unfolding isNoDate
+no-date-is = refl
+
 pub month-12 : isDate (record { year = 0; month = 12; day = 31; hour = 23; minute = 59; second = 59 }) ≡ true
 unfolding isDate
 month-12 = refl
@@ -34,15 +38,15 @@ month-13 = refl
 
 all-six : (a b c d e f : Bool) → (a && b && c && d && e && f) ≡ true → (a ≡ true) × (b ≡ true) × (c ≡ true) × (d ≡ true) × (e ≡ true) × (f ≡ true)
 all-six a b c d e f h =
-    let t₅ = and-true (a && b && c && d && e) f h in
-    let t₄ = and-true (a && b && c && d) e (t₅ .0) in
-    let t₃ = and-true (a && b && c) d (t₄ .0) in
-    let t₂ = and-true (a && b) c (t₃ .0) in
-    let t₁ = and-true a b (t₂ .0) in
+    let t₅ = and-both (a && b && c && d && e) f h in
+    let t₄ = and-both (a && b && c && d) e (t₅ .0) in
+    let t₃ = and-both (a && b && c) d (t₄ .0) in
+    let t₂ = and-both (a && b) c (t₃ .0) in
+    let t₁ = and-both a b (t₂ .0) in
     (t₁ .0, t₁ .1, t₂ .1, t₃ .1, t₄ .1, t₅ .1)
 
 most : (lowest n highest : ℕ) → within lowest n highest ≡ true → n ≤ highest
-most lowest n highest e = leb-true n highest (and-true (leb lowest n) (leb n highest) e .1)
+most lowest n highest e = leb-true n highest (and-both (leb lowest n) (leb n highest) e .1)
 
 -- a date's numbers are within their ranges, by which callers know it
 pub date-ranges : (d : DateTime) → isDate d ≡ true → Ranges d
@@ -64,7 +68,7 @@ unfolding isNoDate
 date-some d e =
     let low = date-ranges d e .year in
     let not-255 : eqb (d .year) 255 ≡ false = ne-eqb (d .year) 255 (λ (h : d .year ≡ 255). omega arith) in
-    false-and _ _ (false-and _ _ (false-and _ _ (false-and _ _ (false-and _ _ not-255))))
+    no-and _ _ (no-and _ _ (no-and _ _ (no-and _ _ (no-and _ _ not-255))))
 
 -- no date is six bytes FF
 pub no-date-bytes : (d : DateTime) → isNoDate d ≡ true → dateBytes noDate ≡ dateBytes d

@@ -1,4 +1,4 @@
--- DATETIME: year 0..99 (from 2000), month 1..12, day 1..31, hour 0..23, minute and second 0..59. Six bytes FF mean no date.
+-- DATETIME, and no date.
 -- Assumes nothing.
 use Prim.Native.Nat.{ℕ, _≤_}
 use mathlib.Core.Bool.{Bool, _&&_}
@@ -18,7 +18,7 @@ dateOf bs =
 abbrev pub within : ℕ → ℕ → ℕ → Bool
 within lowest n highest = leb lowest n && leb n highest
 
--- whether they are a date
+-- "DATETIME: year 0..99 (from 2000), month 1..12, day 1..31, hour 0..23, minute and second 0..59."
 unfoldable pub isDate : DateTime → Bool
 isDate d =
     within 0 (d .year) 99
@@ -28,6 +28,7 @@ isDate d =
     && within 0 (d .minute) 59
     && within 0 (d .second) 59
 
+-- "Six bytes FF mean no date"
 abbrev pub noDate : DateTime
 noDate = record { year = 255; month = 255; day = 255; hour = 255; minute = 255; second = 255 }
 

@@ -2,7 +2,7 @@
 -- Assumes nothing.
 use mathlib.Core.Path.{_≡_, refl, sym, ap, subst, _∙_}
 use mathlib.Core.Logic.{⊎-elim}
-use mathlib.Core.Bool.{Bool, true, false, cond}
+use mathlib.Core.Bool.{Bool, true, false, cond, false≢true}
 use mathlib.Core.List.{List, [], _∷_, _++_, append-nil, append-assoc}
 use Prim.Native.Nat.{ℕ, _+_, _≤_}
 use native.Mathlib.Nat.{add-zero, zero-add, add-assoc}
@@ -10,48 +10,69 @@ use native.Mathlib.Omega.{arith}
 use lib.ListN.{length, take, drop, length-append}
 use lib.Seq.{sets, sets-eq, take-at, length-take-le}
 use Rattle.sm160_frame.specs.Layout.{offsetOf, partOf, isStart, isEnd}
-use Rattle.sm160_receiver.specs.Receiving.{reached, reply, left}
-use Rattle.sm160_receiver.specs.declared.Answer.{Answer}
-use Rattle.sm160_receiver.specs.declared.Answer.the-variants.{Complete, Refused}
-use Rattle.sm160_frame.specs.Carried.{joined}
-use Rattle.demand3.specs.Course.{Side, newly, answer, next, run}
-use Rattle.demand3.specs.Completion.{isRefused, accepted, keep, sinceStart, InOrder, NoStart, FromStart, Holds}
-use Rattle.demand3.proofs.Taking.{Taken, next-taken, answer-taken, either-way}
+use Rattle.sm160_frame.specs.Carried.{Carries, none, InTurn, joined}
+use Rattle.sm160_receiver.specs.Receiving.{reached, reply, stateAfter}
+use Rattle.sm160_receiver.specs.declared.Receiver.{Receiver}
+use Rattle.sm160_receiver.specs.declared.Answer.the-variants.{Complete}
+use Rattle.demand3.specs.Feeding.{Side, side, Exchange, exchange, EndsWith, Fed, ByStep, newly, Steps}
+use Rattle.demand3.specs.Completion.{isRefused, acceptedFrames, keepFrom, sinceStart, HoldsFile}
+use Rattle.demand3.proofs.Taking.{Taken, either-way, taken-not, reaches, FitFor, fit-newly, fit-next}
 
--- of a receiver with a file under way, the kept frames are what it holds
-abbrev Sound : Side → List (List ℕ) → Type 0
-Sound σ kept = σ .state .«under_way» ≡ true → Holds (σ .state .count) (σ .buffer) kept
+-- ---- frames that carry the beginning of a file: as `InTurn`, but END is on none
+Begin : ℕ → ℕ → Bool → List (List ℕ) → Type 0
+Begin session place start [] = Unit {0}
+Begin session place start (f ∷ fs) = Carries session place start false f × Begin session (place + length (partOf f)) false fs
 
--- ---- one frame more
+-- whether the frame after these is to have START
+starting : Bool → List (List ℕ) → Bool
+starting start [] = start
+starting start (f ∷ fs) = starting false fs
+
+-- f is the next after these
+abbrev Next : ℕ → ℕ → Bool → List (List ℕ) → Bool → List ℕ → Type 0
+Next session place start fs end f = Carries session (place + length (joined fs)) (starting start fs) end f
+
+next-first : (session place : ℕ) (start end : Bool) (f : List ℕ) → Next session place start [] end f → Carries session place start end f
+unfolding joined starting
+next-first session place start end f c = subst (λ (k : ℕ). Carries session k start end f) (add-zero place) c
+
+next-rest : (session place : ℕ) (start : Bool) (g : List ℕ) (fs : List (List ℕ)) (end : Bool) (f : List ℕ)
+    → Next session place start (g ∷ fs) end f → Next session (place + length (partOf g)) false fs end f
+unfolding joined starting
+next-rest session place start g fs end f c =
+    subst (λ (k : ℕ). Carries session k (starting false fs) end f)
+    (ap (λ (k : ℕ). place + k) (length-append (partOf g) (joined fs)) ∙ sym (add-assoc place (length (partOf g)) (length (joined fs)))) c
+
+-- one frame more: without END, and with it
+begin-snoc : (session place : ℕ) (start : Bool) (fs : List (List ℕ)) (f : List ℕ)
+    → Begin session place start fs → Next session place start fs false f → Begin session place start (fs ++ (f ∷ []))
+unfolding Begin
+begin-snoc session place start [] f b c = (next-first session place start false f c, tt)
+begin-snoc session place start (g ∷ fs) f b c =
+    (b .0, begin-snoc session (place + length (partOf g)) false fs f (b .1) (next-rest session place start g fs false f c))
+
+snoc-some : (fs : List (List ℕ)) (f : List ℕ) → none (fs ++ (f ∷ [])) ≡ false
+snoc-some [] f = refl
+snoc-some (g ∷ fs) f = refl
+
+turn-snoc : (session place : ℕ) (start : Bool) (fs : List (List ℕ)) (f : List ℕ)
+    → Begin session place start fs → Next session place start fs true f → InTurn session place start (fs ++ (f ∷ []))
+unfolding Begin InTurn
+turn-snoc session place start [] f b c = (next-first session place start true f c, tt)
+turn-snoc session place start (g ∷ fs) f b c = (
+  subst (λ (end : Bool). Carries session place start end g) (sym (snoc-some fs f)) (b .0),
+  turn-snoc session (place + length (partOf g)) false fs f (b .1) (next-rest session place start g fs true f c),
+)
+
+starting-snoc : (start : Bool) (fs : List (List ℕ)) (f : List ℕ) → starting start (fs ++ (f ∷ [])) ≡ false
+unfolding starting
+starting-snoc start [] f = refl
+starting-snoc start (g ∷ fs) f = starting-snoc false fs f
+
 joined-snoc : (fs : List (List ℕ)) (f : List ℕ) → joined (fs ++ (f ∷ [])) ≡ joined fs ++ partOf f
 unfolding joined
 joined-snoc [] f = append-nil (partOf f)
 joined-snoc (g ∷ fs) f = ap (λ (l : List ℕ). partOf g ++ l) (joined-snoc fs f) ∙ sym (append-assoc (partOf g) (joined fs) (partOf f))
-
-order-snoc : (place : ℕ) (fs : List (List ℕ)) (f : List ℕ) → InOrder place fs → offsetOf f ≡ place + length (joined fs) → InOrder place (fs ++ (f ∷ []))
-unfolding InOrder joined
-order-snoc place [] f h e = (e ∙ add-zero place, tt)
-order-snoc place (g ∷ fs) f h e = (
-  h .0,
-  order-snoc (place + length (partOf g)) fs f (h .1)
-      (e ∙ ap (λ (k : ℕ). place + k) (length-append (partOf g) (joined fs)) ∙ sym (add-assoc place (length (partOf g)) (length (joined fs)))),
-)
-
-no-start-snoc : (fs : List (List ℕ)) (f : List ℕ) → NoStart fs → isStart f ≡ false → NoStart (fs ++ (f ∷ []))
-no-start-snoc [] f h e = (e, tt)
-no-start-snoc (g ∷ fs) f h e = (h .0, no-start-snoc fs f (h .1) e)
-
-start-snoc : (fs : List (List ℕ)) (f : List ℕ) → FromStart fs → isStart f ≡ false → FromStart (fs ++ (f ∷ []))
-start-snoc [] f h e = absurd h
-start-snoc (g ∷ fs) f h e = (h .0, no-start-snoc fs f (h .1) e)
-
-joined-one : (f : List ℕ) → joined (f ∷ []) ≡ partOf f
-unfolding joined
-joined-one f = append-nil (partOf f)
-
-order-one : (f : List ℕ) → offsetOf f ≡ 0 → InOrder 0 (f ∷ [])
-unfolding InOrder
-order-one f e = (e, tt)
 
 -- up to the part's end the buffer is what stood before the part, and the part
 take-sets : (b : List ℕ) (place : ℕ) (p : List ℕ) → place + length p ≤ length b → take (place + length p) (sets b place p) ≡ take place b ++ p
@@ -60,126 +81,131 @@ take-sets b place p h =
     length-append (take place b) p ∙ ap (λ (k : ℕ). k + length p) (length-take-le place b (omega arith)) in
     ap (take (place + length p)) (sets-eq p b place h) ∙ take-at (take place b ++ p) (drop (place + length p) b) (place + length p) n
 
--- what an accepted frame leaves, if what was held was sound
-holds-kept : (start : Bool) (σ : Side) (kept : List (List ℕ)) (f : List ℕ) → isStart f ≡ start → Taken σ f → Sound σ kept
-    → Holds (reached f) (sets (σ .buffer) (offsetOf f) (partOf f)) (keep start kept f)
-unfolding reached
-holds-kept true σ kept f e t h =
-    let z : offsetOf f ≡ 0 = t .at-start e in
-    let p = take-sets (σ .buffer) (offsetOf f) (partOf f) (t .room) in
-    record {
-      from-start = (e, tt);
-      in-order = order-one f z;
-      count = ap (λ (k : ℕ). k + length (partOf f)) z ∙ zero-add (length (partOf f)) ∙ ap length (sym (joined-one f));
-      bytes = p ∙ ap (λ (k : ℕ). take k (σ .buffer) ++ partOf f) z ∙ sym (joined-one f);
-    }
-holds-kept false σ kept f e t h =
-    let z : offsetOf f ≡ σ .state .count = t .at-count e in
+-- ---- a receiver with a file under way holds the kept frames' parts
+record Begun (session n : ℕ) (b : List ℕ) (fs : List (List ℕ)) : Type 0 where
+  some : starting true fs ≡ false
+  begin : Begin session 0 true fs
+  count : n ≡ length (joined fs)
+  bytes : take n b ≡ joined fs
+
+abbrev Sound : ℕ → Side → List (List ℕ) → Type 0
+Sound session σ kept = σ .state .«under_way» ≡ true → Begun session (σ .state .count) (σ .buffer) kept
+
+-- the frames that f is added to, none where it has START
+record Before (session : ℕ) (σ : Side) (f : List ℕ) (fs : List (List ℕ)) : Type 0 where
+  begin : Begin session 0 true fs
+  starts : starting true fs ≡ isStart f
+  place : offsetOf f ≡ length (joined fs)
+  bytes : take (offsetOf f) (σ .buffer) ≡ joined fs
+
+before : (start : Bool) (session : ℕ) (σ : Side) (kept : List (List ℕ)) (f : List ℕ) → isStart f ≡ start → Taken σ f → Sound session σ kept
+    → Before session σ f (cond start [] kept)
+unfolding Begin starting joined
+before true session σ kept f e t h =
+    let z = t .at-start e in
+    record { begin = tt; starts = sym e; place = z; bytes = ap (λ (k : ℕ). take k (σ .buffer)) z }
+before false session σ kept f e t h =
     let w = h (t .going e) in
-    let p = take-sets (σ .buffer) (offsetOf f) (partOf f) (t .room) in
-    let c : offsetOf f ≡ length (joined kept) = z ∙ w .count in
-    let j : joined (kept ++ (f ∷ [])) ≡ joined kept ++ partOf f = joined-snoc kept f in
-    record {
-      from-start = start-snoc kept f (w .from-start) e;
-      in-order = order-snoc 0 kept f (w .in-order) (c ∙ sym (zero-add (length (joined kept))));
-      count = ap (λ (k : ℕ). k + length (partOf f)) c ∙ sym (length-append (joined kept) (partOf f)) ∙ ap length (sym j);
-      bytes = p ∙ ap (λ (l : List ℕ). l ++ partOf f) (ap (λ (k : ℕ). take k (σ .buffer)) z ∙ w .bytes) ∙ sym j;
-    }
+    let z = t .at-count e in
+    record { begin = w .begin; starts = w .some ∙ sym e; place = z ∙ w .count; bytes = ap (λ (k : ℕ). take k (σ .buffer)) z ∙ w .bytes }
 
--- the kept frames after one more, refused or not
-abbrev grown : Side → List (List ℕ) → List ℕ → List (List ℕ)
-grown σ kept f = cond (isRefused (answer σ f)) kept (keep (isStart f) kept f)
+-- f is taken at σ, after the frames fs
+module _ (session m : ℕ) (σ : Side) (f : List ℕ) (fs : List (List ℕ)) (i : FitFor session m σ) (t : Taken σ f) (h : Before session σ f fs) where
+  abbrev Stored : List ℕ
+  Stored = sets (σ .buffer) (offsetOf f) (partOf f)
 
-grown-refused : (σ : Side) (kept : List (List ℕ)) (f : List ℕ) (n : ℕ) → answer σ f ≡ Refused n → grown σ kept f ≡ kept
-grown-refused σ kept f n e = ap (λ (a : Answer). cond (isRefused a) kept (keep (isStart f) kept f)) e
+  stored-bytes : take (reached f) Stored ≡ joined (fs ++ (f ∷ []))
+  unfolding reached
+  stored-bytes = take-sets (σ .buffer) (offsetOf f) (partOf f) (t .room) ∙ ap (λ (l : List ℕ). l ++ partOf f) (h .bytes) ∙ sym (joined-snoc fs f)
 
-reply-not : (b : Bool) (n : ℕ) → isRefused (reply b n) ≡ false
-reply-not true n = refl
-reply-not false n = refl
+  stored-count : reached f ≡ length (joined (fs ++ (f ∷ [])))
+  unfolding reached
+  stored-count =
+      ap (λ (k : ℕ). k + length (partOf f)) (h .place) ∙ sym (length-append (joined fs) (partOf f)) ∙ ap length (sym (joined-snoc fs f))
 
-grown-taken : (σ : Side) (kept : List (List ℕ)) (f : List ℕ) → Taken σ f → grown σ kept f ≡ keep (isStart f) kept f
-grown-taken σ kept f t =
-    ap (λ (b : Bool). cond b kept (keep (isStart f) kept f)) (ap isRefused (answer-taken σ f t) ∙ reply-not (isEnd f) (reached f))
+  next : (end : Bool) → isEnd f ≡ end → Next session 0 true fs end f
+  next end e =
+      record {
+        good = t .good;
+        ours = t .ours ∙ i .ours;
+        placed = h .place ∙ sym (zero-add (length (joined fs)));
+        starts = sym (h .starts);
+        ends = e;
+      }
 
-holds-grown : (σ : Side) (kept : List (List ℕ)) (f : List ℕ) → Taken σ f → Sound σ kept
-    → Holds (reached f) (sets (σ .buffer) (offsetOf f) (partOf f)) (grown σ kept f)
-holds-grown σ kept f t h =
-    subst (λ (l : List (List ℕ)). Holds (reached f) (sets (σ .buffer) (offsetOf f) (partOf f)) l) (sym (grown-taken σ kept f t))
-    (holds-kept (isStart f) σ kept f refl t h)
+  holds-file : isEnd f ≡ true → HoldsFile session (reached f) Stored (fs ++ (f ∷ []))
+  holds-file e =
+      let some = reaches f (t .good) in
+      record {
+        some = omega arith;
+        count = stored-count;
+        carried = record { whole = sym stored-bytes; turns = turn-snoc session 0 true fs f (h .begin) (next true e) };
+      }
 
-sound-left : (b : Bool) (session n : ℕ) (l : List ℕ) (kept : List (List ℕ)) → Holds n l kept → Sound (record { state = left b session n; buffer = l }) kept
-sound-left true session n l kept w e = absurd (let z : _≡_ {A = ℕ} 0 1 = cc in omega arith)
-sound-left false session n l kept w e = w
+  sound : (end : Bool) (s : Receiver) → isEnd f ≡ end → Sound session (side (stateAfter end s (reached f)) Stored) (fs ++ (f ∷ []))
+  sound true s e u = absurd (false≢true u)
+  sound false s e u =
+      record {
+        some = starting-snoc true fs f;
+        begin = begin-snoc session 0 true fs f (h .begin) (next false e);
+        count = stored-count;
+        bytes = stored-bytes;
+      }
 
-sound-next : (σ : Side) (kept : List (List ℕ)) (f : List ℕ) → Sound σ kept → Sound (next σ f) (grown σ kept f)
-sound-next σ kept f h =
+-- ---- the kept frames after one frame more, refused or not
+abbrev grown : Bool → List (List ℕ) → List ℕ → List (List ℕ)
+grown refused kept f = cond refused kept (cond (isStart f) [] kept ++ (f ∷ []))
+
+keep-next : (refused : Bool) (kept : List (List ℕ)) (f : List ℕ) (fs : List (List ℕ)) → keepFrom (grown refused kept f) fs ≡ keepFrom kept (cond refused fs (f ∷ fs))
+unfolding keepFrom
+keep-next true kept f fs = refl
+keep-next false kept f fs = refl
+
+sound-next : (session m : ℕ) (σ : Side) (kept : List (List ℕ)) (x : Exchange) (τ : Side) → ByStep σ x τ → FitFor session m σ → Sound session σ kept
+    → Sound session τ (grown (isRefused (x .answer)) kept (x .frame))
+sound-next session m σ kept x τ e i h =
+    let f = x .frame in
     ⊎-elim
-    (λ w. subst (λ (τ : Side). Sound τ (grown σ kept f)) (sym (w .2)) (subst (λ (l : List (List ℕ)). Sound σ l) (sym (grown-refused σ kept f (w .0) (w .1))) h))
-    (λ t. subst (λ (τ : Side). Sound τ (grown σ kept f)) (sym (next-taken σ f t))
-    (sound-left (isEnd f) (σ .state .session) (reached f) (sets (σ .buffer) (offsetOf f) (partOf f)) (grown σ kept f) (holds-grown σ kept f t h)))
-    (either-way σ f)
-
--- ---- frames in turn
-since-cons : (b : Bool) (kept : List (List ℕ)) (f : List ℕ) (rest : List (List ℕ))
-    → sinceStart kept (cond b rest (f ∷ rest)) ≡ sinceStart (cond b kept (keep (isStart f) kept f)) rest
-unfolding sinceStart
-since-cons true kept f rest = refl
-since-cons false kept f rest = refl
-
-abbrev since : Side → List (List ℕ) → List (List ℕ) → List (List ℕ)
-since σ kept fs = sinceStart kept (accepted σ fs)
-
-since-next : (σ : Side) (kept : List (List ℕ)) (f : List ℕ) (fs : List (List ℕ)) → since σ kept (f ∷ fs) ≡ since (next σ f) (grown σ kept f) fs
-unfolding accepted
-since-next σ kept f fs = since-cons (isRefused (answer σ f)) kept f (accepted (next σ f) fs)
-
-sound-run : (σ : Side) (kept fs : List (List ℕ)) → Sound σ kept → Sound (run σ fs) (since σ kept fs)
-unfolding run accepted sinceStart
-sound-run σ kept [] h = h
-sound-run σ kept (f ∷ fs) h =
-    subst (λ (l : List (List ℕ)). Sound (run (next σ f) fs) l) (sym (since-next σ kept f fs)) (sound-run (next σ f) (grown σ kept f) fs (sound-next σ kept f h))
-
-run-snoc : (σ : Side) (fs : List (List ℕ)) (f : List ℕ) → run σ (fs ++ (f ∷ [])) ≡ next (run σ fs) f
-unfolding run
-run-snoc σ [] f = refl
-run-snoc σ (g ∷ fs) f = run-snoc (next σ g) fs f
-
-since-snoc : (σ : Side) (kept fs : List (List ℕ)) (f : List ℕ) → since σ kept (fs ++ (f ∷ [])) ≡ grown (run σ fs) (since σ kept fs) f
-unfolding run accepted sinceStart
-since-snoc σ kept [] f = since-next σ kept f []
-since-snoc σ kept (g ∷ fs) f =
-    since-next σ kept g (fs ++ (f ∷ []))
-    ∙ since-snoc (next σ g) (grown σ kept g) fs f
-    ∙ ap (λ (l : List (List ℕ)). grown (run (next σ g) fs) l f) (sym (since-next σ kept g fs))
-
-sound-newly : (session : ℕ) (b : List ℕ) → Sound (newly session b) []
-sound-newly session b e = absurd (let z : _≡_ {A = ℕ} 0 1 = cc in omega arith)
+    (λ w. subst (λ (refused : Bool). Sound session τ (grown refused kept f)) (sym (ap isRefused (w .answered)))
+    (subst (λ (ρ : Side). Sound session ρ kept) (sym (w .same)) h))
+    (λ w. subst (λ (refused : Bool). Sound session τ (grown refused kept f)) (sym (taken-not σ x τ w))
+    (subst (λ (ρ : Side). Sound session ρ (grown false kept f)) (sym (w .lands))
+    (sound session m σ f (cond (isStart f) [] kept) i (w .able) (before (isStart f) session σ kept f refl (w .able) h) (isEnd f) (σ .state) refl)))
+    (either-way σ x τ e)
 
 -- ---- the demand
-reply-complete : (b : Bool) (m n : ℕ) → reply b m ≡ Complete n → m ≡ n
-reply-complete true m n e = cc
+
+-- an answer of completion: END is set, and the length is where the frame's part ends
+reply-complete : (end : Bool) (m n : ℕ) → reply end m ≡ Complete n → (end ≡ true) × (m ≡ n)
+reply-complete true m n e = (refl, (cc))
 reply-complete false m n e = absurd (let z : _≡_ {A = ℕ} 0 1 = cc in omega arith)
 
--- a frame that is answered with completion is taken, and reaches to the length
-completes : (σ : Side) (f : List ℕ) (n : ℕ) → answer σ f ≡ Complete n → Taken σ f × (reached f ≡ n)
-completes σ f n e =
-    ⊎-elim (λ w. absurd (let z : _≡_ {A = ℕ} 0 1 = cc (w .1, e) in omega arith))
-    (λ t. (t, reply-complete (isEnd f) (reached f) n (sym (answer-taken σ f t) ∙ e)))
-    (either-way σ f)
+abbrev completing : List ℕ → ℕ → List Exchange
+completing f n = exchange f (Complete n) ∷ []
 
--- After any frames, where f is answered with completion at n: the first n bytes of the buffer are the joined parts of the frames accepted
--- from the last accepted START on, without gap or repeat.
-pub completed : (session : ℕ) (b : List ℕ) (before : List (List ℕ)) (f : List ℕ) (n : ℕ)
-    → answer (run (newly session b) before) f ≡ Complete n
-    → Holds n (run (newly session b) (before ++ (f ∷ [])) .buffer) (sinceStart [] (accepted (newly session b) (before ++ (f ∷ []))))
-completed session b before f n e =
-    let σ₀ = newly session b in
-    let σ = run σ₀ before in
-    let kept = since σ₀ [] before in
-    let c = completes σ f n e in
-    let w = holds-grown σ kept f (c .0) (sound-run σ₀ [] before (sound-newly session b)) in
-    let buffer : run σ₀ (before ++ (f ∷ [])) .buffer ≡ sets (σ .buffer) (offsetOf f) (partOf f) =
-    ap (λ (τ : Side). τ .buffer) (run-snoc σ₀ before f ∙ next-taken σ f (c .0)) in
-    subst (λ (k : ℕ). Holds k (run σ₀ (before ++ (f ∷ [])) .buffer) (since σ₀ [] (before ++ (f ∷ [])))) (c .1)
-    (subst (λ (l : List ℕ). Holds (reached f) l (since σ₀ [] (before ++ (f ∷ [])))) (sym buffer)
-    (subst (λ (l : List (List ℕ)). Holds (reached f) (sets (σ .buffer) (offsetOf f) (partOf f)) l) (sym (since-snoc σ₀ [] before f)) w))
+completes : (session m : ℕ) (σ : Side) (kept : List (List ℕ)) (earlier : List Exchange) (f : List ℕ) (n : ℕ) (τ : Side) → FitFor session m σ → Sound session σ kept
+    → Fed ByStep σ (earlier ++ completing f n) τ → HoldsFile session n (τ .buffer) (keepFrom kept (acceptedFrames (earlier ++ completing f n)))
+unfolding Fed acceptedFrames keepFrom
+completes session m σ kept [] f n τ i h e =
+    let fs = cond (isStart f) [] kept in
+    ⊎-elim (λ w. absurd (false≢true (ap isRefused (w .answered))))
+    (λ w.
+    let c = reply-complete (isEnd f) (reached f) n (sym (w .answered)) in
+    let buffer : τ .buffer ≡ sets (σ .buffer) (offsetOf f) (partOf f) = ap (λ (ρ : Side). ρ .buffer) (e .2 ∙ w .lands) in
+    subst (λ (k : ℕ). HoldsFile session k (τ .buffer) (fs ++ (f ∷ []))) (c .1)
+    (subst (λ (b : List ℕ). HoldsFile session (reached f) b (fs ++ (f ∷ []))) (sym buffer)
+    (holds-file session m σ f fs i (w .able) (before (isStart f) session σ kept f refl (w .able) h) (c .0))))
+    (either-way σ _ (e .0) (e .1))
+completes session m σ kept (x ∷ earlier) f n τ i h e =
+    let refused = isRefused (x .answer) in
+    subst (HoldsFile session n (τ .buffer)) (keep-next refused kept (x .frame) (acceptedFrames (earlier ++ completing f n)))
+    (completes session m (e .0) (grown refused kept (x .frame)) earlier f n τ (fit-next session m σ x (e .0) (e .1) i) (sound-next session m σ kept x (e .0) (e .1) i h) (e .2))
+
+-- A receiver is opened, lent b and fed any frames. Where the last is answered with completion at n: the first n bytes of the buffer are the
+-- joined parts of the frames accepted from the last accepted START on, without gap or repeat.
+pub completed : (session : ℕ) (b : List ℕ) (xs : List Exchange) (τ : Side) (n : ℕ)
+    → Steps session b xs τ → EndsWith (Complete n) xs → HoldsFile session n (τ .buffer) (sinceStart (acceptedFrames xs))
+completed session b xs τ n s w =
+    subst (λ (l : List Exchange). HoldsFile session n (τ .buffer) (sinceStart (acceptedFrames l))) (sym (w .2))
+    (completes session (length b) (newly session b) [] (w .0) (w .1) n τ (fit-newly session b) (λ e. absurd (false≢true e))
+    (subst (λ (l : List Exchange). Fed ByStep (newly session b) l τ) (w .2) s))

@@ -1,158 +1,158 @@
 -- Demand 3, its first half: a file that arrives is delivered, whatever came before it and whatever is refused between its frames.
 -- Assumes nothing.
 use mathlib.Core.Path.{_≡_, refl, sym, ap, ap₂, subst, _∙_}
-use mathlib.Core.Bool.{Bool, true, false}
+use mathlib.Core.Bool.{Bool, true, false, true≢false, false≢true}
 use mathlib.Core.List.{List, [], _∷_, _++_}
 use Prim.Native.Nat.{ℕ, _+_, _≤_}
-use native.Mathlib.Nat.{add-zero, zero-add, add-assoc}
+use native.Mathlib.Nat.{add-zero, add-assoc}
 use native.Mathlib.Omega.{arith}
 use lib.ListN.{length, length-append}
 use lib.Seq.{sets}
 use Rattle.wire.specs.Numbers.{over}
 use Rattle.wire.proofs.Writing.{sets-append, sets-over}
-use Rattle.sm160_receiver.specs.Receiving.{holding, reached, reply, left}
+use Rattle.sm160_frame.specs.Layout.{partOf}
+use Rattle.sm160_frame.specs.Carried.{Carries, none, InTurn, joined, Carried}
+use Rattle.sm160_receiver.specs.Receiving.{opened, holding, reached, reply, stateAfter}
 use Rattle.sm160_receiver.specs.declared.Receiver.{Receiver}
-use Rattle.sm160_receiver.specs.declared.Answer.{Answer}
 use Rattle.sm160_receiver.specs.declared.Answer.the-variants.{Held, Complete}
-use Rattle.demand3.specs.Course.{Side, newly, answer, next, answers, run}
-use Rattle.demand3.specs.Arrival.{Brings, Item, piece, other, frames, own, parts, join, none, InFrames, Arrives, heard, counts, Delivered}
-use Rattle.demand3.proofs.Taking.{Taken, next-taken, answer-taken, unchanged, Fit, fit-newly, fit-next, fit-run}
+use Rattle.demand3.specs.Feeding.{Side, Exchange, exchange, framesOf, EndsWith, Fed, ByStep, newly, Steps}
+use Rattle.demand3.specs.Arrival.{Item, fileFrame, otherFrame, all, own, Arrives, counts, Delivered, fileFrames}
+use Rattle.demand3.proofs.Taking.{takes, unchanged, FitFor, fit-newly, fit-next, fit-fed}
+
+-- ---- one frame of the file
 
 -- where a receiver stands as a part is to come: anywhere before the first, and at the part's place before another
-abbrev Ready : ℕ → ℕ → Bool → Side → Type 0
-Ready session place true σ = place ≡ 0
-Ready session place false σ = σ .state ≡ holding session place
+record Ready (session place : ℕ) (start : Bool) (σ : Side) : Type 0 where
+  first : start ≡ true → place ≡ 0
+  later : start ≡ false → σ .state ≡ holding session place
 
-going : (session place : ℕ) (start : Bool) (σ : Side) → Ready session place start σ → start ≡ false → σ .state ≡ holding session place
-going session place true σ h e = absurd (let z : _≡_ {A = ℕ} 0 1 = cc in omega arith)
-going session place false σ h e = h
+-- the part is put in its place, and answered with the bytes up to its end
+record Placed (session place : ℕ) (end : Bool) (σ : Side) (x : Exchange) (τ : Side) : Type 0 where
+  answered : x ≡ exchange (x .frame) (reply end (place + length (partOf (x .frame))))
+  goes-on : τ .state ≡ stateAfter end (opened session) (place + length (partOf (x .frame)))
+  stored : τ .buffer ≡ sets (σ .buffer) place (partOf (x .frame))
 
-first-place : (session place : ℕ) (start : Bool) (σ : Side) → Ready session place start σ → start ≡ true → place ≡ 0
-first-place session place true σ h e = h
-first-place session place false σ h e = absurd (let z : _≡_ {A = ℕ} 0 1 = cc in omega arith)
+after : (end : Bool) (s : Receiver) (n : ℕ) → stateAfter end s n ≡ stateAfter end (opened (s .session)) n
+after true s n = refl
+after false s n = refl
 
--- a frame that brings the next part is taken: answered with the bytes up to its part's end, and the part is put in its place
-module _ (session m place : ℕ) (start end : Bool) (σ : Side) (p f : List ℕ) (i : Fit session m σ) (h : Ready session place start σ)
-    (g : Brings session place p start end f) (k : place + length p ≤ m) where
-  reach : reached f ≡ place + length p
-  unfolding reached
-  reach = ap₂ (λ (x y : ℕ). x + y) (g .placed) (ap length (g .part))
+placed : (session m place : ℕ) (start end : Bool) (σ : Side) (x : Exchange) (τ : Side) → ByStep σ x τ → FitFor session m σ → Ready session place start σ
+    → Carries session place start end (x .frame) → place + length (partOf (x .frame)) ≤ m → Placed session place end σ x τ
+unfolding reached
+placed session m place start end σ x τ e i h g k =
+    let p = partOf (x .frame) in
+    let reach : reached (x .frame) ≡ place + length p = ap (λ (n : ℕ). n + length p) (g .placed) in
+    let w = takes σ x τ e (record {
+      fit = i .fit;
+      good = g .good;
+      ours = g .ours ∙ sym (i .ours);
+      going = λ q. ap (λ (s : Receiver). s .«under_way») (h .later (sym (g .starts) ∙ q));
+      at-start = λ q. g .placed ∙ h .first (sym (g .starts) ∙ q);
+      at-count = λ q. g .placed ∙ sym (ap (λ (s : Receiver). s .count) (h .later (sym (g .starts) ∙ q)));
+      room = omega (arith, reach, i .room);
+    }) in
+    record {
+      answered = ap (exchange (x .frame)) (w .answered ∙ ap₂ reply (g .ends) reach);
+      goes-on =
+          ap (λ (ρ : Side). ρ .state) (w .lands)
+          ∙ ap₂ (λ (b : Bool) (n : ℕ). stateAfter b (σ .state) n) (g .ends) reach
+          ∙ after end (σ .state) (place + length p)
+          ∙ ap (λ (n : ℕ). stateAfter end (opened n) (place + length p)) (i .ours);
+      stored = ap (λ (ρ : Side). ρ .buffer) (w .lands) ∙ ap (λ (n : ℕ). sets (σ .buffer) n p) (g .placed);
+    }
 
-  here : Taken σ f
-  here =
-      let r = i .room in
-      record {
-        fit = rw r (i .fit);
-        good = g .good;
-        ours = g .ours ∙ sym (i .ours);
-        going = λ q. ap (λ (x : Receiver). x .«under_way») (going session place start σ h (sym (g .starts) ∙ q));
-        at-start = λ q. g .placed ∙ first-place session place start σ h (sym (g .starts) ∙ q);
-        at-count = λ q. g .placed ∙ sym (ap (λ (x : Receiver). x .count) (going session place start σ h (sym (g .starts) ∙ q)));
-        room = omega (arith, reach);
-      }
+-- ---- all that comes in, from the place of the file's next part on
+record Given (place : ℕ) (σ : Side) (is : List Item) (τ : Side) : Type 0 where
+  counted : own is ≡ counts place (framesOf (own is))
+  stored : τ .buffer ≡ sets (σ .buffer) place (joined (framesOf (own is)))
 
-  part-answer : answer σ f ≡ reply end (place + length p)
-  part-answer = answer-taken σ f here ∙ ap₂ reply (g .ends) reach
+arrival : (session m place : ℕ) (start : Bool) (σ : Side) (is : List Item) (τ : Side) → FitFor session m σ
+    → (none (framesOf (own is)) ≡ false → Ready session place start σ)
+    → InTurn session place start (framesOf (own is)) → place + length (joined (framesOf (own is))) ≤ m
+    → Fed ByStep σ (all is) τ → Given place σ is τ
+unfolding all own counts InTurn joined Fed
+arrival session m place start σ [] τ i h g k e = record { counted = refl; stored = ap (λ (ρ : Side). ρ .buffer) e }
+arrival session m place start σ (otherFrame f n ∷ is) τ i h g k e =
+    let rest = subst (λ (ρ : Side). Fed ByStep ρ (all is) τ) (unchanged σ _ (e .0) n (e .1) refl) (e .2) in
+    let more = arrival session m place start σ is τ i h g k rest in
+    record { counted = more .counted; stored = more .stored }
+arrival session m place start σ (fileFrame x ∷ is) τ i h g k e =
+    let p = partOf (x .frame) in
+    let fs = framesOf (own is) in
+    let ρ = e .0 in
+    let n : length (p ++ joined fs) ≡ length p + length (joined fs) = length-append p (joined fs) in
+    let d = placed session m place start (none fs) σ x ρ (e .1) i (h refl) (g .0) (omega arith) in
+    let ready : none fs ≡ false → Ready session (place + length p) false ρ =
+    λ q. record { first = λ z. absurd (false≢true z); later = λ z. d .goes-on ∙ ap (λ (b : Bool). stateAfter b (opened session) (place + length p)) q } in
+    let more = arrival session m (place + length p) false ρ is τ (fit-next session m σ x ρ (e .1) i) ready (g .1) (omega arith) (e .2) in
+    record {
+      counted = ap₂ (λ (y : Exchange) (ys : List Exchange). y ∷ ys) (d .answered) (more .counted);
+      stored = more .stored ∙ ap (λ (b : List ℕ). sets b (place + length p) (joined fs)) (d .stored) ∙ sets-append (σ .buffer) place p (joined fs);
+    }
 
-  part-state : next σ f .state ≡ left end session (place + length p)
-  part-state =
-      ap (λ (τ : Side). τ .state) (next-taken σ f here)
-      ∙ ap (λ (b : Bool). left b (σ .state .session) (reached f)) (g .ends)
-      ∙ ap₂ (λ (x y : ℕ). left end x y) (i .ours) reach
+-- the same of a whole file
+given : (session m : ℕ) (σ : Side) (file : List ℕ) (is : List Item) (τ : Side) → FitFor session m σ → Carried session file (framesOf (own is)) → length file ≤ m
+    → Fed ByStep σ (all is) τ → Given 0 σ is τ
+given session m σ file is τ i c fits e =
+    arrival session m 0 true σ is τ i (λ q. record { first = λ z. refl; later = λ z. absurd (true≢false z) }) (c .turns) (omega (arith, ap length (c .whole))) e
 
-  part-buffer : next σ f .buffer ≡ sets (σ .buffer) place p
-  part-buffer = ap (λ (τ : Side). τ .buffer) (next-taken σ f here) ∙ ap₂ (λ (x : ℕ) (y : List ℕ). sets (σ .buffer) x y) (g .placed) (g .part)
+-- ---- frames with nothing between them
+pub all-file : (xs : List Exchange) → all (fileFrames xs) ≡ xs
+unfolding all
+all-file [] = refl
+all-file (x ∷ xs) = ap (λ (l : List Exchange). x ∷ l) (all-file xs)
 
--- what the parts that are to come give: the answers to their frames, and the buffer
-abbrev Given : ℕ → Side → List Item → Type 0
-Given place σ is = (heard σ is ≡ counts place (parts is)) × (run σ (frames is) .buffer ≡ sets (σ .buffer) place (join (parts is)))
+pub own-file : (xs : List Exchange) → own (fileFrames xs) ≡ xs
+unfolding own
+own-file [] = refl
+own-file (x ∷ xs) = ap (λ (l : List Exchange). x ∷ l) (own-file xs)
 
-arrival : (session m place : ℕ) (start : Bool) (σ : Side) (is : List Item) → Fit session m σ → (none (parts is) ≡ false → Ready session place start σ)
-    → InFrames session place start σ is → place + length (join (parts is)) ≤ m → Given place σ is
-unfolding heard counts parts run frames InFrames
-arrival session m place start σ [] i h g k = (refl, refl)
-arrival session m place start σ (other f ∷ is) i h g k =
-    let e : next σ f ≡ σ = unchanged σ f (g .0 .0) (g .0 .1) in
-    let ih = arrival session m place start σ is i h (subst (λ (τ : Side). InFrames session place start τ is) e (g .1)) k in
-    (ap (λ (τ : Side). heard τ is) e ∙ ih .0, ap (λ (τ : Side). run τ (frames is) .buffer) e ∙ ih .1)
-arrival session m place start σ (piece p f ∷ is) i h g k =
-    let end = none (parts is) in
-    let n : length (p ++ join (parts is)) ≡ length p + length (join (parts is)) = length-append p (join (parts is)) in
-    let l : place + length p ≤ m = omega arith in
-    let ih = arrival session m (place + length p) false (next σ f) is (fit-next session m σ f i)
-    (λ q. part-state session m place start end σ p f i (h refl) (g .0) l ∙ ap (λ (b : Bool). left b session (place + length p)) q)
-    (g .1) (omega arith) in (
-      ap₂ (λ (x : Answer) (y : List Answer). x ∷ y) (part-answer session m place start end σ p f i (h refl) (g .0) l) (ih .0),
-      ih .1
-          ∙ ap (λ (b : List ℕ). sets b (place + length p) (join (parts is))) (part-buffer session m place start end σ p f i (h refl) (g .0) l)
-          ∙ sets-append (σ .buffer) place p (join (parts is)),
-    )
-
--- ---- the file's frames alone
-alone : List Item → List Item
-alone [] = []
-alone (piece p f ∷ is) = piece p f ∷ alone is
-alone (other f ∷ is) = alone is
-
-parts-alone : (is : List Item) → parts (alone is) ≡ parts is
-unfolding parts alone
-parts-alone [] = refl
-parts-alone (piece p f ∷ is) = ap (λ (ps : List (List ℕ)). p ∷ ps) (parts-alone is)
-parts-alone (other f ∷ is) = parts-alone is
-
-heard-alone : (σ : Side) (is : List Item) → heard σ (alone is) ≡ answers σ (own is)
-unfolding heard alone answers own
-heard-alone σ [] = refl
-heard-alone σ (piece p f ∷ is) = ap (λ (l : List Answer). answer σ f ∷ l) (heard-alone (next σ f) is)
-heard-alone σ (other f ∷ is) = heard-alone σ is
-
-frames-alone : (session place : ℕ) (start : Bool) (σ τ : Side) (is : List Item) → InFrames session place start σ is → InFrames session place start τ (alone is)
-unfolding InFrames alone
-frames-alone session place start σ τ [] g = tt
-frames-alone session place start σ τ (piece p f ∷ is) g = (
-  subst (λ (ps : List (List ℕ)). Brings session place p start (none ps) f) (sym (parts-alone is)) (g .0),
-  frames-alone session (place + length p) false (next σ f) (next τ f) is (g .1),
-)
-frames-alone session place start σ τ (other f ∷ is) g = frames-alone session place start (next σ f) τ is (g .1)
+-- at a newly opened receiver
+alone-counted : (session : ℕ) (file b : List ℕ) (alone : List Exchange) (ρ : Side) → Carried session file (framesOf alone) → length file ≤ length b
+    → Steps session b alone ρ → alone ≡ counts 0 (framesOf alone)
+alone-counted session file b alone ρ c fits s =
+    subst (λ (l : List Exchange). l ≡ counts 0 (framesOf l)) (own-file alone)
+    (given session (length b) (newly session b) file (fileFrames alone) ρ (fit-newly session b)
+    (subst (λ (l : List Exchange). Carried session file (framesOf l)) (sym (own-file alone)) c) fits
+    (subst (λ (l : List Exchange). Fed ByStep (newly session b) l ρ) (sym (all-file alone)) s) .counted)
 
 -- ---- the last answer
-counts-end : (place : ℕ) (p : List ℕ) (ps : List (List ℕ))
-    → (before : List Answer) × (counts place (p ∷ ps) ≡ before ++ (Complete (place + length (join (p ∷ ps))) ∷ []))
-unfolding counts
-counts-end place p [] = ([], ap (λ (k : ℕ). Complete (place + k) ∷ []) (sym (length-append p [] ∙ add-zero (length p))))
-counts-end place p (q ∷ ps) =
-    let more = counts-end (place + length p) q ps in
-    let n : place + length p + length (join (q ∷ ps)) ≡ place + length (p ++ join (q ∷ ps)) =
-    add-assoc place (length p) (length (join (q ∷ ps))) ∙ ap (λ (k : ℕ). place + k) (sym (length-append p (join (q ∷ ps)))) in (
-      Held (place + length p) ∷ more .0,
-      ap (λ (l : List Answer). Held (place + length p) ∷ l) (more .1 ∙ ap (λ (k : ℕ). more .0 ++ (Complete k ∷ [])) n),
+counts-end : (place : ℕ) (f : List ℕ) (fs : List (List ℕ)) → EndsWith (Complete (place + length (joined (f ∷ fs)))) (counts place (f ∷ fs))
+unfolding counts joined
+counts-end place f [] =
+    ([], f, ap (λ (k : ℕ). exchange f (Complete (place + k)) ∷ []) (sym (length-append (partOf f) [] ∙ add-zero (length (partOf f)))))
+counts-end place f (g ∷ fs) =
+    let p = partOf f in
+    let first : Exchange = exchange f (Held (place + length p)) in
+    let more = counts-end (place + length p) g fs in
+    let n : place + length p + length (joined (g ∷ fs)) ≡ place + length (p ++ joined (g ∷ fs)) =
+    add-assoc place (length p) (length (joined (g ∷ fs))) ∙ ap (λ (k : ℕ). place + k) (sym (length-append p (joined (g ∷ fs)))) in (
+      first ∷ more .0,
+      more .1,
+      ap (λ (l : List Exchange). first ∷ l) (more .2 ∙ ap (λ (k : ℕ). more .0 ++ (exchange (more .1) (Complete k) ∷ [])) n),
     )
 
-last-count : (ps : List (List ℕ)) (file : List ℕ) → join ps ≡ file → 1 ≤ length file → (before : List Answer) × (counts 0 ps ≡ before ++ (Complete (length file) ∷ []))
+last-count : (fs : List (List ℕ)) (file : List ℕ) → joined fs ≡ file → 1 ≤ length file → EndsWith (Complete (length file)) (counts 0 fs)
+unfolding joined
 last-count [] file e h = absurd (omega (arith, ap length e))
-last-count (p ∷ ps) file e h =
-    let c = counts-end 0 p ps in
-    (c .0, c .1 ∙ ap (λ (k : ℕ). c .0 ++ (Complete k ∷ [])) (zero-add (length (join (p ∷ ps))) ∙ ap length e))
+last-count (f ∷ fs) file e h = subst (λ (k : ℕ). EndsWith (Complete k) (counts 0 (f ∷ fs))) (omega (arith, ap length e)) (counts-end 0 f fs)
 
 -- ---- the demand
-pub delivered : (session : ℕ) (b : List ℕ) (before : List (List ℕ)) (file : List ℕ) (is : List Item)
-    → Arrives session file (run (newly session b) before) is
-    → Delivered session file (run (newly session b) before) is
+
+-- A receiver is opened, lent b and fed any frames: it is at σ. Where a file then arrives among the items, and they lead to τ, it is delivered.
+pub delivered : (session : ℕ) (b : List ℕ) (before : List Exchange) (σ : Side) (file : List ℕ) (is : List Item) (τ : Side)
+    → Steps session b before σ → Arrives session file b is → Fed ByStep σ (all is) τ
+    → Delivered Steps session file is σ τ
 unfolding over
-delivered session b before file is a =
-    let σ = run (newly session b) before in
-    let i : Fit session (length b) σ = fit-run session (length b) (newly session b) before (fit-newly session b) in
-    let k : 0 + length (join (parts is)) ≤ length b = omega (arith, a .fits, i .room, ap length (a .cut)) in
-    let g : Given 0 σ is = arrival session (length b) 0 true σ is i (λ q. refl) (a .in-frames) k in
-    let e = last-count (parts is) file (a .cut) (a .some) in
+delivered session b before σ file is τ s a e =
+    let i : FitFor session (length b) σ = fit-fed session (length b) (newly session b) before σ s (fit-newly session b) in
+    let g = given session (length b) σ file is τ i (a .carried) (a .fits) e in
     record {
-      as-new = λ d q.
-          let ka : 0 + length (join (parts (alone is))) ≤ length d = rw (parts-alone is) (omega (arith, ap length (a .cut))) in
-          g .0
-          ∙ ap (counts 0) (sym (parts-alone is))
-          ∙ sym (arrival session (length d) 0 true (newly session d) (alone is) (fit-newly session d) (λ w. refl) (frames-alone session 0 true σ (newly session d) is (a .in-frames)) ka .0)
-          ∙ heard-alone (newly session d) is;
-      counted = g .0;
-      complete = (e .0, g .0 ∙ e .1);
-      bytes = g .1 ∙ ap (sets (σ .buffer) 0) (a .cut) ∙ sets-over (σ .buffer) file (a .fits);
+      as-new = λ d alone ρ fits new same.
+          g .counted
+          ∙ ap (counts 0) (sym same)
+          ∙ sym (alone-counted session file d alone ρ (subst (Carried session file) (sym same) (a .carried)) fits new);
+      counted = g .counted;
+      complete = subst (EndsWith (Complete (length file))) (sym (g .counted)) (last-count (framesOf (own is)) file (a .carried .whole) (a .some));
+      bytes = g .stored ∙ ap (sets (σ .buffer) 0) (a .carried .whole) ∙ sets-over (σ .buffer) file (omega (arith, a .fits, i .room));
     }

@@ -1,5 +1,5 @@
 pub mod Taking
 pub mod Delivery
 pub mod Completed
+pub mod ByCalls
 pub mod Sent
-pub mod Called

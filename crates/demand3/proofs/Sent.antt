@@ -1,92 +1,54 @@
--- Frames that carry a file deliver it, and so what the sender writes: demand 3 is not empty.
+-- What the sender writes is delivered: demand 3 is not empty.
 -- Assumes nothing.
-use mathlib.Core.Path.{_≡_, refl, sym, ap, subst, _∙_}
-use mathlib.Core.Bool.{Bool, true, false}
-use mathlib.Core.List.{List, [], _∷_, _++_}
-use Prim.Native.Nat.{ℕ, _+_, _-_, _≤_, _<_}
+use mathlib.Core.Path.{_≡_, sym, subst}
+use mathlib.Core.Bool.{false}
+use mathlib.Core.List.{List}
+use Prim.Native.Nat.{ℕ, _≤_, _<_}
 use native.Mathlib.Omega.{arith}
-use borrow.Author.Tests.{ne-eqb, le-ltb, ltb-false, eqb-false, ne-eqb, le-ltb}
+use borrow.Author.Tests.{ne-eqb, le-ltb}
 use lib.Dec.{eqb, ltb}
 use lib.ListN.{length}
 use Rattle.wire.specs.Each.{Bytes}
-use Rattle.wire.proofs.Bools.{or-false, false-or}
-use Rattle.wire.proofs.Refusal.{none-first}
-use Rattle.sm160_frame.specs.Layout.{partOf}
-use Rattle.sm160_frame.specs.Reading.{frameRules, frameFault}
+use Rattle.wire.proofs.Bools.{neither-or}
+use Rattle.sm160_frame.specs.Carried.{Carried}
 use Rattle.sm160_sender.specs.Sending.{badFile, badLargest}
-use Rattle.sm160_frame.specs.Carried.{Carries, none as no-frames, InTurn, joined, Carried}
-use Rattle.sm160_sender.specs.Course.{Call, Course, frames as sent-frames}
-use Rattle.sm160_sender.proofs.Course.{sent as sends, sends-whole}
-use Rattle.demand3.specs.Course.{Side, newly, next, run}
-use Rattle.demand3.specs.Arrival.{Brings, parts, join, none, InFrames, pieces, Delivered}
-use Rattle.demand3.proofs.Taking.{fit-newly, fit-run}
-use Rattle.demand3.proofs.Delivery.{delivered}
-
--- ---- frames that carry a file
-brings : (session place : ℕ) (start end : Bool) (f : List ℕ) → Carries session place start end f → Brings session place (partOf f) start end f
-unfolding frameFault
-brings session place start end f c =
-    let p = partOf f in
-    let h = or-false (eqb (length p) 0) (ltb 240 (length p)) (none-first (frameRules f) tt (c .good) .1 .1 .0) in
-    let some : length p ≡ 0 → ⊥ = eqb-false _ _ (h .0) in
-    record {
-      some = omega arith;
-      small = ltb-false _ _ (h .1);
-      good = c .good;
-      ours = c .ours;
-      placed = c .placed;
-      part = refl;
-      starts = c .starts;
-      ends = c .ends;
-    }
-
-none-pieces : (fs : List (List ℕ)) → none (parts (pieces fs)) ≡ no-frames fs
-unfolding parts pieces
-none-pieces [] = refl
-none-pieces (f ∷ fs) = refl
-
-join-pieces : (fs : List (List ℕ)) → join (parts (pieces fs)) ≡ joined fs
-unfolding parts pieces joined
-join-pieces [] = refl
-join-pieces (f ∷ fs) = ap (λ (l : List ℕ). partOf f ++ l) (join-pieces fs)
-
-turn-frames : (session place : ℕ) (start : Bool) (σ : Side) (fs : List (List ℕ)) → InTurn session place start fs → InFrames session place start σ (pieces fs)
-unfolding InTurn InFrames pieces
-turn-frames session place start σ [] h = tt
-turn-frames session place start σ (f ∷ fs) h = (
-  subst (λ (b : Bool). Brings session place (partOf f) start b f) (sym (none-pieces fs)) (brings session place start (no-frames fs) f (h .0)),
-  turn-frames session (place + length (partOf f)) false (next σ f) fs (h .1),
-)
+use Rattle.sm160_sender.specs.Whole.{Call, SentInTurn, sentFrames}
+use Rattle.sm160_sender.proofs.Whole.{sent as sends, sends-whole}
+use Rattle.demand3.specs.Feeding.{Side, Exchange, framesOf, Fed}
+use Rattle.demand3.specs.Calls.{ByCall, Calls}
+use Rattle.demand3.specs.Arrival.{Delivered, fileFrames}
+use Rattle.demand3.proofs.Delivery.{all-file, own-file}
+use Rattle.demand3.proofs.ByCalls.{delivered-by-calls, fed-with}
 
 -- frames that carry a file deliver it, whatever came before them
-pub carried : (session : ℕ) (b : List ℕ) (before : List (List ℕ)) (file : List ℕ) (fs : List (List ℕ))
-    → 1 ≤ length file → length file ≤ length b → length file ≤ 4294967295 → Carried session file fs
-    → Delivered session file (run (newly session b) before) (pieces fs)
-carried session b before file fs some fits small c =
-    let σ = run (newly session b) before in
-    let room : length (σ .buffer) ≡ length b = fit-run session (length b) (newly session b) before (fit-newly session b) .room in
-    delivered session b before file (pieces fs)
-    (record { some = some; fits = omega arith; small = small; cut = join-pieces fs ∙ c .whole; in-frames = turn-frames session 0 true σ fs (c .turns) })
-
--- ---- what the sender writes
+pub carried : (session : ℕ) (b : List ℕ) (before : List Exchange) (σ : Side) (file : List ℕ) (xs : List Exchange) (τ : Side)
+    → 1 ≤ length file → length file ≤ length b → Carried session file (framesOf xs)
+    → Calls session b before σ → Fed ByCall σ xs τ → Delivered Calls session file (fileFrames xs) σ τ
+carried session b before σ file xs τ some fits c s e =
+    delivered-by-calls session b before σ file (fileFrames xs) τ s
+    (record { some = some; fits = fits; carried = subst (λ (l : List Exchange). Carried session file (framesOf l)) (sym (own-file xs)) c })
+    (subst (λ (l : List Exchange). Fed ByCall σ l τ) (sym (all-file xs)) e)
 
 -- What calls of the sender write, from place 0 on by the answered places and cut by any largest part, is delivered, whatever came before it.
-pub sent : (session : ℕ) (b : List ℕ) (before : List (List ℕ)) (file : List ℕ) (largest : ℕ) (cs : List Call)
-    → session < 65536 → Bytes file → 1 ≤ length file → length file ≤ length b → length file ≤ 4294967295
-    → Course file session largest 0 cs
-    → Delivered session file (run (newly session b) before) (pieces (sent-frames cs))
-sent session b before file largest cs hs bytes some fits small h =
-    carried session b before file (sent-frames cs) some fits small (sends file session largest bytes hs cs h)
+pub sent : (session : ℕ) (b : List ℕ) (before : List Exchange) (σ : Side) (file : List ℕ) (largest : ℕ) (cs : List Call) (xs : List Exchange) (τ : Side)
+    → session < 65536 → Bytes file → 1 ≤ length file → length file ≤ length b
+    → SentInTurn file session largest 0 cs → framesOf xs ≡ sentFrames cs
+    → Calls session b before σ → Fed ByCall σ xs τ → Delivered Calls session file (fileFrames xs) σ τ
+sent session b before σ file largest cs xs τ hs bytes some fits h same s e =
+    carried session b before σ file xs τ some fits (subst (Carried session file) (sym same) (sends file session largest bytes hs cs h)) s e
 
--- And there are such calls: with one output of 252 bytes or more lent to each.
-pub sent-whole : (session : ℕ) (b : List ℕ) (before : List (List ℕ)) (file : List ℕ) (largest : ℕ) (out : List ℕ)
+-- And there are such calls: of the sender, with one output of 252 bytes or more lent to each, and of the receiver with what they write.
+pub sent-whole : (session : ℕ) (b : List ℕ) (before : List Exchange) (σ : Side) (file : List ℕ) (largest : ℕ) (out : List ℕ)
     → session < 65536 → Bytes file → 1 ≤ length file → length file ≤ length b → length file ≤ 4294967295
-    → 1 ≤ largest → largest ≤ 240 → 252 ≤ length out
-    → (cs : List Call) × Course file session largest 0 cs × Delivered session file (run (newly session b) before) (pieces (sent-frames cs))
-sent-whole session b before file largest out hs bytes some fits small l1 l2 room =
+    → 1 ≤ largest → largest ≤ 240 → 252 ≤ length out → Calls session b before σ
+    → (cs : List Call) × (xs : List Exchange) × (τ : Side)
+    × SentInTurn file session largest 0 cs × (framesOf xs ≡ sentFrames cs) × Fed ByCall σ xs τ × Delivered Calls session file (fileFrames xs) σ τ
+sent-whole session b before σ file largest out hs bytes some fits small l1 l2 room s =
     let good-file : badFile file ≡ false =
-    false-or (eqb (length file) 0) (ltb 4294967295 (length file)) (ne-eqb (length file) 0 (λ e. omega arith)) (le-ltb 4294967295 (length file) small) in
+    neither-or (eqb (length file) 0) (ltb 4294967295 (length file)) (ne-eqb (length file) 0 (λ e. omega arith)) (le-ltb 4294967295 (length file) small) in
     let good-largest : badLargest largest ≡ false =
-    false-or (eqb largest 0) (ltb 240 largest) (ne-eqb largest 0 (λ e. omega arith)) (le-ltb 240 largest l2) in
+    neither-or (eqb largest 0) (ltb 240 largest) (ne-eqb largest 0 (λ e. omega arith)) (le-ltb 240 largest l2) in
     let calls = sends-whole file session largest out good-file good-largest room in
-    (calls .0, calls .1, sent session b before file largest (calls .0) hs bytes some fits small (calls .1))
+    let fed = fed-with σ (sentFrames (calls .0)) in
+    let d = sent session b before σ file largest (calls .0) (fed .0) (fed .1) hs bytes some fits (calls .1) (fed .3) s (fed .2) in
+    (calls .0, fed .0, fed .1, calls .1, fed .3, fed .2, d)

@@ -2,7 +2,7 @@
 -- Assumes nothing.
 use mathlib.Core.Path.{_≡_, refl, sym, ap, subst, _∙_}
 use mathlib.Core.Logic.{_⊎_, inl, inr, ⊎-elim}
-use mathlib.Core.Bool.{Bool, true, false, not, _&&_}
+use mathlib.Core.Bool.{Bool, true, false, not, _&&_, false≢true}
 use mathlib.Core.List.{List, [], _∷_}
 use Prim.Native.Nat.{ℕ, zero, suc, _≤_, _<_}
 use native.Mathlib.Omega.{arith}
@@ -10,14 +10,16 @@ use borrow.Author.Tests.{ltb-false, eqb-true, eqb-false, not-true, not-false, le
 use lib.Dec.{eqb, ltb}
 use lib.ListN.{length}
 use lib.Seq.{sets, length-sets}
-use Rattle.wire.proofs.Bools.{or-false}
-use Rattle.wire.proofs.Refusal.{first-none, none-first}
+use Rattle.wire.proofs.Bools.{or-neither}
+use Rattle.wire.proofs.Refusal.{first-none, none-first, none-append, none-both}
 use Rattle.sm160_frame.specs.Layout.{sessionOf, offsetOf, partOf, isStart, isEnd}
 use Rattle.sm160_frame.specs.Reading.{frameRules, frameFault}
-use Rattle.sm160_receiver.specs.Receiving.{opened, holding, reached, unfit, receiveRules, refusal, reply, left, After}
+use Rattle.sm160_receiver.specs.Receiving.{opened, standing, reached, unfit, placeRules, receiveRules, refusal, reply, stateAfter, After, Took}
+use Rattle.sm160_receiver.specs.declared.Receiver.{Receiver}
 use Rattle.sm160_receiver.specs.declared.Answer.the-variants.{Refused}
 use Rattle.sm160_receiver.proofs.Steps.{step-refused, step-accepted}
-use Rattle.demand3.specs.Course.{Side, newly, answer, next, run}
+use Rattle.demand3.specs.Feeding.{Side, side, Exchange, Fed, ByStep, newly}
+use Rattle.demand3.specs.Completion.{isRefused}
 
 -- ---- a frame is taken where no rule holds
 and-no : (a b : Bool) → (a ≡ true → b ≡ false) → (a && b) ≡ false
@@ -25,7 +27,7 @@ and-no true b h = h refl
 and-no false b h = refl
 
 pub record Taken (σ : Side) (f : List ℕ) : Type 0 where
-  pub fit : unfit (σ .state) (length (σ .buffer)) ≡ false
+  pub fit : unfit (σ .state) (σ .buffer) ≡ false
   pub good : frameFault f ≡ 0
   pub ours : sessionOf f ≡ σ .state .session
   pub going : isStart f ≡ false → σ .state .«under_way» ≡ true
@@ -33,155 +35,134 @@ pub record Taken (σ : Side) (f : List ℕ) : Type 0 where
   pub at-count : isStart f ≡ false → offsetOf f ≡ σ .state .count
   pub room : reached f ≤ length (σ .buffer)
 
-abbrev refusalAt : Side → List ℕ → ℕ
-refusalAt σ f = refusal (σ .state) (length (σ .buffer)) f
-
-taken-of : (σ : Side) (f : List ℕ) → refusalAt σ f ≡ 0 → Taken σ f
+taken-of : (σ : Side) (f : List ℕ) → refusal (σ .state) (σ .buffer) f ≡ 0 → Taken σ f
 unfolding refusal frameFault
 taken-of σ f e =
-    let h = none-first (receiveRules (σ .state) (length (σ .buffer)) f) tt e in
-    let g = h .1 in
-    let p = h .1 .1 .1 .1 .1 .1 in
+    let s = σ .state in
+    let h = none-first (receiveRules s (σ .buffer) f) tt e in
+    let both = none-append (frameRules f) (placeRules s (σ .buffer) f) (h .1) in
+    let p = both .1 in
     record {
       fit = h .0;
-      good = first-none (frameRules f) (g .0, (g .1 .0, (g .1 .1 .0, (g .1 .1 .1 .0, (g .1 .1 .1 .1 .0, tt)))));
+      good = first-none (frameRules f) (both .0);
       ours = eqb-true _ _ (not-false _ (p .0));
       going = λ q. not-false _ (rw q at (p .1 .0));
       at-start = λ q. eqb-true _ _ (not-false _ (rw q at (p .1 .1 .0)));
       at-count = λ q.
-          let lo : σ .state .count ≤ offsetOf f = ltb-false _ _ (rw q at (p .1 .1 .1 .0)) in
-          let hi : offsetOf f ≤ σ .state .count = ltb-false _ _ (rw q at (p .1 .1 .1 .1 .0)) in
+          let lo : s .count ≤ offsetOf f = ltb-false _ _ (rw q at (p .1 .1 .1 .0)) in
+          let hi : offsetOf f ≤ s .count = ltb-false _ _ (rw q at (p .1 .1 .1 .1 .0)) in
           omega arith;
       room = ltb-false _ _ (p .1 .1 .1 .1 .1 .0);
     }
 
-of-taken : (σ : Side) (f : List ℕ) → Taken σ f → refusalAt σ f ≡ 0
+of-taken : (σ : Side) (f : List ℕ) → Taken σ f → refusal (σ .state) (σ .buffer) f ≡ 0
 unfolding refusal frameFault
 of-taken σ f t =
     let s = σ .state in
-    let g = none-first (frameRules f) tt (t .good) in
-    first-none (receiveRules s (length (σ .buffer)) f) (
+    let at = offsetOf f in
+    let not-27 = and-no (not (isStart f)) (not (s .«under_way»)) (λ q. ap not (t .going (not-true _ q))) in
+    let not-28 = and-no (isStart f) (not (eqb at 0)) (λ q. ap not (eq-eqb _ _ (t .at-start q))) in
+    let not-29 = and-no (not (isStart f)) (ltb at (s .count)) (λ q. let z = t .at-count (not-true _ q) in le-ltb at (s .count) (omega arith)) in
+    let not-30 = and-no (not (isStart f)) (ltb (s .count) at) (λ q. let z = t .at-count (not-true _ q) in le-ltb (s .count) at (omega arith)) in
+    first-none (receiveRules s (σ .buffer) f) (
       t .fit,
-      (
-        g .0,
-        (
-          g .1 .0,
-          (
-            g .1 .1 .0,
-            (
-              g .1 .1 .1 .0,
-              (
-                g .1 .1 .1 .1 .0,
-                (
-                  ap not (eq-eqb _ _ (t .ours)),
-                  (
-                    and-no (not (isStart f)) (not (s .«under_way»)) (λ q. ap not (t .going (not-true _ q))),
-                    (
-                      and-no (isStart f) (not (eqb (offsetOf f) 0)) (λ q. ap not (eq-eqb _ _ (t .at-start q))),
-                      (
-                        and-no (not (isStart f)) (ltb (offsetOf f) (s .count)) (λ q. let z = t .at-count (not-true _ q) in le-ltb (offsetOf f) (s .count) (omega arith)),
-                        (
-                          and-no (not (isStart f)) (ltb (s .count) (offsetOf f)) (λ q. let z = t .at-count (not-true _ q) in le-ltb (s .count) (offsetOf f) (omega arith)),
-                          (le-ltb _ _ (t .room), tt),
-                        ),
-                      ),
-                    ),
-                  ),
-                ),
-              ),
-            ),
-          ),
-        ),
-      ),
+      none-both (frameRules f) (placeRules s (σ .buffer) f) (none-first (frameRules f) tt (t .good))
+          (ap not (eq-eqb _ _ (t .ours)), (not-27, (not-28, (not-29, (not-30, (le-ltb _ _ (t .room), tt)))))),
     )
 
--- ---- the two ways
+-- ---- one frame: the two ways
+
+-- what is left where it is taken
 abbrev pub landed : Side → List ℕ → Side
-landed σ f = record { state = left (isEnd f) (σ .state .session) (reached f); buffer = sets (σ .buffer) (offsetOf f) (partOf f) }
+landed σ f = side (stateAfter (isEnd f) (σ .state) (reached f)) (sets (σ .buffer) (offsetOf f) (partOf f))
+
+pub record IsRefused (σ : Side) (x : Exchange) (τ : Side) : Type 0 where
+  pub number : ℕ
+  pub answered : x .answer ≡ Refused number
+  pub same : τ ≡ σ
+
+pub record IsTaken (σ : Side) (x : Exchange) (τ : Side) : Type 0 where
+  pub able : Taken σ (x .frame)
+  pub answered : x .answer ≡ reply (isEnd (x .frame)) (reached (x .frame))
+  pub lands : τ ≡ landed σ (x .frame)
 
 abbrev sideOf : After → Side
-sideOf o = record { state = o .state; buffer = o .buffer }
+sideOf o = side (o .state) (o .buffer)
 
-pub next-taken : (σ : Side) (f : List ℕ) → Taken σ f → next σ f ≡ landed σ f
-next-taken σ f t = ap sideOf (step-accepted (σ .state) f (σ .buffer) (of-taken σ f t))
+pub takes : (σ : Side) (x : Exchange) (τ : Side) → ByStep σ x τ → Taken σ (x .frame) → IsTaken σ x τ
+unfolding Took
+takes σ x τ e able =
+    let a = e ∙ step-accepted (σ .state) (x .frame) (σ .buffer) (of-taken σ (x .frame) able) in
+    record { able = able; answered = ap (λ (o : After). o .answer) a; lands = ap sideOf a }
 
-pub answer-taken : (σ : Side) (f : List ℕ) → Taken σ f → answer σ f ≡ reply (isEnd f) (reached f)
-answer-taken σ f t = ap (λ (o : After). o .answer) (step-accepted (σ .state) f (σ .buffer) (of-taken σ f t))
-
-abbrev RefusedBy : Side → List ℕ → Type 0
-RefusedBy σ f = (n : ℕ) × (answer σ f ≡ Refused n) × (next σ f ≡ σ)
-
-pub either-way : (σ : Side) (f : List ℕ) → RefusedBy σ f ⊎ Taken σ f
-either-way σ f = go (refusalAt σ f) refl
+pub either-way : (σ : Side) (x : Exchange) (τ : Side) → ByStep σ x τ → IsRefused σ x τ ⊎ IsTaken σ x τ
+unfolding Took
+either-way σ x τ e = go (refusal (σ .state) (σ .buffer) (x .frame)) refl
   where
-    go : (n : ℕ) → refusalAt σ f ≡ n → RefusedBy σ f ⊎ Taken σ f
-    go zero e = inr (taken-of σ f e)
-    go (suc n) e =
-        let r = step-refused (σ .state) f (σ .buffer) (suc n) (sym e) (λ q. omega arith) in
-        inl (suc n, ap (λ (o : After). o .answer) r, ap sideOf r)
+    go : (n : ℕ) → refusal (σ .state) (σ .buffer) (x .frame) ≡ n → IsRefused σ x τ ⊎ IsTaken σ x τ
+    go zero z = inr (takes σ x τ e (taken-of σ (x .frame) z))
+    go (suc n) z =
+        let r = e ∙ step-refused (σ .state) (x .frame) (σ .buffer) (suc n) (sym z) (λ q. omega arith) in
+        inl (record { number = suc n; answered = ap (λ (o : After). o .answer) r; same = ap sideOf r })
 
-not-refused : (b : Bool) (m n : ℕ) → reply b m ≡ Refused n → ⊥
-not-refused true m n e =
-    let z : _≡_ {A = ℕ} 0 1 = cc in
-    omega arith
-not-refused false m n e =
-    let z : _≡_ {A = ℕ} 0 1 = cc in
-    omega arith
+reply-not : (end : Bool) (n : ℕ) → isRefused (reply end n) ≡ false
+reply-not true n = refl
+reply-not false n = refl
+
+-- what is taken is not answered with a refusal
+pub taken-not : (σ : Side) (x : Exchange) (τ : Side) → IsTaken σ x τ → isRefused (x .answer) ≡ false
+taken-not σ x τ w = ap isRefused (w .answered) ∙ reply-not (isEnd (x .frame)) (reached (x .frame))
 
 -- a refusal changes nothing
-pub unchanged : (σ : Side) (f : List ℕ) (n : ℕ) → answer σ f ≡ Refused n → next σ f ≡ σ
-unchanged σ f n e =
-    ⊎-elim (λ w. w .2) (λ t. absurd (not-refused (isEnd f) (reached f) n (sym (answer-taken σ f t) ∙ e))) (either-way σ f)
+pub unchanged : (σ : Side) (x : Exchange) (τ : Side) (n : ℕ) → ByStep σ x τ → x .answer ≡ Refused n → τ ≡ σ
+unchanged σ x τ n e r = ⊎-elim (λ w. w .same) (λ w. absurd (false≢true (sym (taken-not σ x τ w) ∙ ap isRefused r))) (either-way σ x τ e)
 
--- ---- a receiver of a session that is fit for its buffer of m bytes stays so
-pub record Fit (session m : ℕ) (σ : Side) : Type 0 where
+-- ---- a receiver of a session that is fit for its buffer, of m bytes, stays so
+pub record FitFor (session m : ℕ) (σ : Side) : Type 0 where
   pub ours : σ .state .session ≡ session
   pub room : length (σ .buffer) ≡ m
-  pub fit : unfit (σ .state) m ≡ false
+  pub fit : unfit (σ .state) (σ .buffer) ≡ false
 
-fit-idle : (session m : ℕ) → unfit (opened session) m ≡ false
+fit-idle : (s : Receiver) (b : List ℕ) → unfit (standing s false 0) b ≡ false
 unfolding unfit
-fit-idle session m = rw (le-ltb m 0 (omega arith))
+fit-idle s b = rw (le-ltb (length b) 0 (omega arith))
 
-fit-holding : (session n m : ℕ) → 0 < n → n ≤ m → unfit (holding session n) m ≡ false
+fit-after : (end : Bool) (s : Receiver) (n : ℕ) (b : List ℕ) → 0 < n → n ≤ length b → unfit (stateAfter end s n) b ≡ false
 unfolding unfit
-fit-holding session n m h k = simp (le-ltb m n k, ne-eqb n 0 (λ e. omega arith))
+fit-after true s n b h k = fit-idle s b
+fit-after false s n b h k = simp (le-ltb (length b) n k, ne-eqb n 0 (λ e. omega arith))
 
-pub fit-newly : (session : ℕ) (b : List ℕ) → Fit session (length b) (newly session b)
-fit-newly session b = record { ours = refl; room = refl; fit = fit-idle session (length b) }
+session-after : (end : Bool) (s : Receiver) (n : ℕ) → stateAfter end s n .session ≡ s .session
+session-after true s n = refl
+session-after false s n = refl
 
-fit-left : (b : Bool) (session n m : ℕ) → 0 < n → n ≤ m → unfit (left b session n) m ≡ false
-fit-left true session n m h k = fit-idle session m
-fit-left false session n m h k = fit-holding session n m h k
-
-session-left : (b : Bool) (session n : ℕ) → left b session n .session ≡ session
-session-left true session n = refl
-session-left false session n = refl
+pub fit-newly : (session : ℕ) (b : List ℕ) → FitFor session (length b) (newly session b)
+fit-newly session b = record { ours = refl; room = refl; fit = fit-idle (opened session) b }
 
 -- a good frame's part has a byte or more, so it reaches beyond 0
 pub reaches : (f : List ℕ) → frameFault f ≡ 0 → 0 < reached f
 unfolding frameFault reached
 reaches f e =
     let g = none-first (frameRules f) tt e in
-    let some : length (partOf f) ≡ 0 → ⊥ = eqb-false _ _ (or-false (eqb (length (partOf f)) 0) (ltb 240 (length (partOf f))) (g .1 .1 .0) .0) in
+    let some : length (partOf f) ≡ 0 → ⊥ = eqb-false _ _ (or-neither (eqb (length (partOf f)) 0) (ltb 240 (length (partOf f))) (g .1 .1 .0) .0) in
     omega arith
 
-fit-landed : (session m : ℕ) (σ : Side) (f : List ℕ) → Fit session m σ → Taken σ f → Fit session m (landed σ f)
+fit-landed : (session m : ℕ) (σ : Side) (f : List ℕ) → FitFor session m σ → Taken σ f → FitFor session m (landed σ f)
 fit-landed session m σ f i t =
-    let e = i .room in
+    let same = length-sets (σ .buffer) (offsetOf f) (partOf f) in
     record {
-      ours = session-left (isEnd f) (σ .state .session) (reached f) ∙ i .ours;
-      room = length-sets (σ .buffer) (offsetOf f) (partOf f) ∙ e;
-      fit = fit-left (isEnd f) (σ .state .session) (reached f) m (reaches f (t .good)) (omega (arith, t .room));
+      ours = session-after (isEnd f) (σ .state) (reached f) ∙ i .ours;
+      room = same ∙ i .room;
+      fit = fit-after (isEnd f) (σ .state) (reached f) _ (reaches f (t .good)) (omega (arith, t .room, same));
     }
 
-pub fit-next : (session m : ℕ) (σ : Side) (f : List ℕ) → Fit session m σ → Fit session m (next σ f)
-fit-next session m σ f i =
-    ⊎-elim (λ w. subst (λ (τ : Side). Fit session m τ) (sym (w .2)) i)
-    (λ t. subst (λ (τ : Side). Fit session m τ) (sym (next-taken σ f t)) (fit-landed session m σ f i t))
-    (either-way σ f)
+pub fit-next : (session m : ℕ) (σ : Side) (x : Exchange) (τ : Side) → ByStep σ x τ → FitFor session m σ → FitFor session m τ
+fit-next session m σ x τ e i =
+    ⊎-elim (λ w. subst (FitFor session m) (sym (w .same)) i)
+    (λ w. subst (FitFor session m) (sym (w .lands)) (fit-landed session m σ (x .frame) i (w .able)))
+    (either-way σ x τ e)
 
-pub fit-run : (session m : ℕ) (σ : Side) (fs : List (List ℕ)) → Fit session m σ → Fit session m (run σ fs)
-unfolding run
-fit-run session m σ [] i = i
-fit-run session m σ (f ∷ fs) i = fit-run session m (next σ f) fs (fit-next session m σ f i)
+pub fit-fed : (session m : ℕ) (σ : Side) (xs : List Exchange) (τ : Side) → Fed ByStep σ xs τ → FitFor session m σ → FitFor session m τ
+unfolding Fed
+fit-fed session m σ [] τ e i = subst (FitFor session m) (sym e) i
+fit-fed session m σ (x ∷ xs) τ h i = fit-fed session m (h .0) xs τ (h .2) (fit-next session m σ x (h .0) (h .1) i)

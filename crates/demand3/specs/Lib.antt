@@ -1,3 +1,4 @@
-pub mod Course
+pub mod Feeding
+pub mod Calls
 pub mod Arrival
 pub mod Completion

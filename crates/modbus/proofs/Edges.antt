@@ -2,7 +2,7 @@
 -- Assumes nothing.
 use mathlib.Core.Path.{_≡_, refl}
 use lib.Dec.{T}
-use lib.ListN.{replicate}
+use lib.ListN.{length, replicate}
 use Rattle.checksum.specs.Crc.{crcFrom, crcBits}
 use Rattle.wire.specs.Numbers.{le, ofLe, be, ofBe, digits, number, field}
 use Rattle.wire.specs.Refusal.{first, pick}
@@ -25,17 +25,17 @@ tcp-lengths = (refl, refl, refl, refl)
 
 -- data of 252 bytes in outputs of 256 and 255, of 253 in an output of 255
 pub rtu-rooms :
-    (first (writeRules (replicate 252 0) (rtuBytes 1 3 (replicate 252 0)) (replicate 256 0)) ≡ 0)
-    × (first (writeRules (replicate 252 0) (rtuBytes 1 3 (replicate 252 0)) (replicate 255 0)) ≡ 16)
-    × (first (writeRules (replicate 253 0) (rtuBytes 1 3 (replicate 253 0)) (replicate 255 0)) ≡ 17)
+    (first (writeRules (replicate 252 0) (length (rtuBytes 1 3 (replicate 252 0))) (replicate 256 0)) ≡ 0)
+    × (first (writeRules (replicate 252 0) (length (rtuBytes 1 3 (replicate 252 0))) (replicate 255 0)) ≡ 16)
+    × (first (writeRules (replicate 253 0) (length (rtuBytes 1 3 (replicate 253 0))) (replicate 255 0)) ≡ 17)
 unfolding pick rtuBytes le digits
 rtu-rooms = (refl, refl, refl)
 
 -- the same in outputs of 260 and 259
 pub tcp-rooms :
-    (first (writeRules (replicate 252 0) (tcpBytes 1 2 3 (replicate 252 0)) (replicate 260 0)) ≡ 0)
-    × (first (writeRules (replicate 252 0) (tcpBytes 1 2 3 (replicate 252 0)) (replicate 259 0)) ≡ 16)
-    × (first (writeRules (replicate 253 0) (tcpBytes 1 2 3 (replicate 253 0)) (replicate 259 0)) ≡ 17)
+    (first (writeRules (replicate 252 0) (length (tcpBytes 1 2 3 (replicate 252 0))) (replicate 260 0)) ≡ 0)
+    × (first (writeRules (replicate 252 0) (length (tcpBytes 1 2 3 (replicate 252 0))) (replicate 259 0)) ≡ 16)
+    × (first (writeRules (replicate 253 0) (length (tcpBytes 1 2 3 (replicate 253 0))) (replicate 259 0)) ≡ 17)
 unfolding pick tcpBytes tcpHead be digits
 tcp-rooms = (refl, refl, refl)
 

@@ -7,16 +7,14 @@ use Prim.Native.Nat.{ℕ, suc, _+_, _-_, _≤_}
 use native.Mathlib.Numerals.{add-one}
 use native.Mathlib.Omega.{arith}
 use lib.ListN.{length, getD, take, drop, length-append, length-drop, take-append-drop}
-use lib.Seq.{getD-at, take-at, drop-at, drop-cons, drop-drop, take-all, take-append-seam, length-take-le}
+use lib.Seq.{getD-at, take-at, drop-at, drop-cons, drop-drop, take-all, length-take-le}
 use borrow.Author.Tests.{le-ltb, ltb-false}
 use Rattle.wire.specs.Numbers.{field, over}
-use Rattle.wire.specs.Refusal.{first, NoneHolds}
-use Rattle.wire.specs.Writes.{writeAnswer, writeOutput}
 use Rattle.wire.specs.declared.Written.{Written}
 use Rattle.wire.specs.declared.Written.the-variants.{Length}
 use Rattle.wire.proofs.Fields.{field-take}
 use Rattle.wire.proofs.Refusal.{first-none, none-first}
-use Rattle.wire.proofs.Writes.{wrote}
+use Rattle.wire.proofs.Writes.{wrote-front, wrote-all}
 use Rattle.modbus.specs.Envelope.{message, enveloped, addressOf, functionOf, dataOf, tooShort, tooLong, writeRules, WritesEnvelope}
 
 -- ---- what was written
@@ -102,15 +100,12 @@ module _ (before after : ℕ) (s : List ℕ) (long : tooShort before after s ≡
 module _ (d bs out : List ℕ) (r : Written) (out′ : List ℕ) (w : WritesEnvelope d bs out r out′) where
   -- an answered length: the data is no longer than 252, and the output begins with the envelope, so long
   pub written-front : (k : ℕ) → r ≡ Length k → (length d ≤ 252) × (take k out′ ≡ bs)
-  unfolding over
   written-front k e =
-      let all = wrote (first (writeRules d bs out)) bs out r out′ k w e in
-      let none = none-first (writeRules d bs out) tt (all .0) in
-      (ltb-false 252 (length d) (none .0), ap₂ (λ (n : ℕ) (l : List ℕ). take n l) (all .1) (all .2) ∙ take-append-seam bs (drop (length bs) out))
+      let front = wrote-front _ bs out r out′ k w e in
+      (ltb-false 252 (length d) (none-first (writeRules d (length bs) out) tt (front .0) .0), front .1)
 
   -- data of up to 252 bytes, and an output with room: it is written
   pub written-whole : length d ≤ 252 → length bs ≤ length out → (r ≡ Length (length bs)) × (out′ ≡ over out bs)
   written-whole small room =
-      let none : NoneHolds (writeRules d bs out) = (le-ltb 252 (length d) small, (le-ltb (length out) (length bs) room, tt)) in
-      let z = first-none (writeRules d bs out) none in
-      (w .answer ∙ ap (λ (n : ℕ). writeAnswer n bs) z, w .output ∙ ap (λ (n : ℕ). writeOutput n bs out) z)
+      wrote-all _ bs out r out′ w
+      (first-none (writeRules d (length bs) out) (le-ltb 252 (length d) small, (le-ltb (length out) (length bs) room, tt)))

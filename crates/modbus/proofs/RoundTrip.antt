@@ -4,7 +4,7 @@
 use mathlib.Core.Path.{_≡_, refl, sym, ap, ap₂, _∙_, subst}
 use mathlib.Core.Bool.{false, not}
 use mathlib.Core.List.{List, [], _++_, append-assoc, append-nil}
-use Prim.Native.Nat.{ℕ, zero, suc, _+_, _-_, _<_, _≤_}
+use Prim.Native.Nat.{ℕ, _+_, _-_, _<_, _≤_}
 use native.Mathlib.Nat.{sub-zero}
 use native.Mathlib.Omega.{arith}
 use lib.Dec.{eqb, lit<}
@@ -18,16 +18,17 @@ use Rattle.wire.specs.Numbers.{le, ofLe, be, ofBe, field, over}
 use Rattle.wire.specs.Refusal.{first, NoneHolds}
 use Rattle.wire.specs.declared.Written.{Written}
 use Rattle.wire.specs.declared.Written.the-variants.{Length}
-use Rattle.wire.proofs.Fields.{field-at, field-take, field-append, field-bytes, length-field}
-use Rattle.wire.proofs.Numbers.{length-be, length-le, ofLe-le, le-ofLe, ofBe-be, be-ofBe}
+use Rattle.wire.proofs.Answer.{answered-none, accepted-as}
+use Rattle.wire.proofs.Fields.{field-at, field-take, field-append, field-bytes, length-field, number-at, number-again}
+use Rattle.wire.proofs.Numbers.{length-be, length-le, ofBe-be, be-ofBe}
 use Rattle.wire.proofs.Refusal.{first-none, none-first}
 use Rattle.modbus.specs.Envelope.{message, enveloped, addressOf, functionOf, WritesEnvelope}
-use Rattle.modbus.specs.Rtu.{rtuBytes, crcOf, coveredOf, rtuData, badCrc, rtuRules, rtuOf, rtuAnswer, readRtu}
-use Rattle.modbus.specs.Tcp.{tcpHead, tcpBytes, transactionOf, protocolOf, lengthOf, tcpData, badProtocol, badLength, tcpRules, tcpOf, tcpAnswer, readTcp}
+use Rattle.modbus.specs.Rtu.{rtuBytes, crcOf, coveredOf, rtuData, badCrc, rtuRules, rtuOf, readRtu, toldRtuRead}
+use Rattle.modbus.specs.Tcp.{tcpHead, tcpBytes, transactionOf, protocolOf, lengthOf, tcpData, badProtocol, badLength, tcpRules, tcpOf, readTcp, toldTcpRead}
 use Rattle.modbus.specs.declared.Rtu.{Rtu}
-use Rattle.modbus.specs.declared.RtuRead.the-variants.{Rtu as FoundRtu}
+use Rattle.modbus.specs.declared.RtuRead.the-variants.{Rtu as FoundRtu, Refused as RtuRefused}
 use Rattle.modbus.specs.declared.Tcp.{Tcp}
-use Rattle.modbus.specs.declared.TcpRead.the-variants.{Tcp as FoundTcp}
+use Rattle.modbus.specs.declared.TcpRead.the-variants.{Tcp as FoundTcp, Refused as TcpRefused}
 use Rattle.modbus.proofs.Fields as fields
 use Rattle.modbus.proofs.Stores.{length-head}
 
@@ -45,9 +46,8 @@ module _ (a f : ℕ) (d : List ℕ) where
       let small : c < 65536 = crcFrom-lt 0xFFFF (message a f d) (lit< tt) hb in
       let at : length (message a f d) ≡ length S - 2 = simp (length-append, length-le) (omega arith) in
       let e : crcOf S ≡ c =
-      ap ofLe (ap (λ (l : List ℕ). field (message a f d ++ l) (length S - 2) 2) (sym (append-nil Sum))
-      ∙ field-at (message a f d) Sum [] (length S - 2) 2 at (length-le 2 c))
-      ∙ ofLe-le 2 c small in
+      ap (λ (l : List ℕ). ofLe (field (message a f d ++ l) (length S - 2) 2)) (sym (append-nil Sum))
+      ∙ number-at (message a f d) [] (length S - 2) 2 c at small in
       ap not (eq-eqb (crcOf S) (crc (coveredOf S)) (e ∙ ap crc (sym (take-at (message a f d) Sum (length S - 2) at))))
 
   rtu-read : Bytes (message a f d) → length d ≤ 252
@@ -57,7 +57,7 @@ module _ (a f : ℕ) (d : List ℕ) where
       let long = fields.written-long [] Sum 0 2 refl (length-le 2 (crc (message a f d))) a f d in
       let fits = fields.written-fits [] Sum 0 2 refl (length-le 2 (crc (message a f d))) a f d small in
       let none : NoneHolds (rtuRules S) = (long, (fits, (written-crc hb, tt))) in
-      (ap (λ (n : ℕ). rtuAnswer n S) (first-none (rtuRules S) none), fields.written-data [] Sum 0 2 refl (length-le 2 (crc (message a f d))) a f d)
+      (answered-none RtuRefused (FoundRtu (rtuOf S)) _ (first-none (rtuRules S) none), fields.written-data [] Sum 0 2 refl (length-le 2 (crc (message a f d))) a f d)
 
 -- where the writer answers a length, the output's front of that length reads back as the same fields
 pub rtu-reads-back : (a f : ℕ) (d out : List ℕ) (r : Written) (out′ : List ℕ) (k : ℕ) → a < 256 → f < 256 → Bytes d
@@ -69,11 +69,12 @@ rtu-reads-back a f d out r out′ k ha hf hd w e =
     (ap readRtu (front .1) ∙ back .0, ap rtuData (front .1) ∙ back .1)
 
 -- ---- RTU, read
-rtu-accepted : (n : ℕ) (s : List ℕ) (e : Rtu) → rtuAnswer n s ≡ FoundRtu e → (n ≡ 0) × (rtuOf s ≡ e)
-rtu-accepted zero s e q = (refl, (cc))
-rtu-accepted (suc n) s e q =
-    let z : _≡_ {A = ℕ} 0 1 = cc in
-    absurd (omega arith)
+rtu-accepted : (s : List ℕ) (e : Rtu) → readRtu s ≡ FoundRtu e → NoneHolds (rtuRules s) × (rtuOf s ≡ e)
+unfolding readRtu
+rtu-accepted s e q =
+    let ok = accepted-as RtuRefused (FoundRtu (rtuOf s)) (λ r. toldRtuRead r .number) (λ n. refl) (first (rtuRules s)) (FoundRtu e) q refl in
+    let same : FoundRtu (rtuOf s) ≡ FoundRtu e = ok .1 in
+    (none-first (rtuRules s) tt (ok .0), (cc))
 
 rtu-again : (s : List ℕ) → Bytes s → NoneHolds (rtuRules s) → rtuBytes (addressOf 0 s) (functionOf 0 s) (rtuData s) ≡ s
 unfolding rtuBytes
@@ -83,8 +84,7 @@ rtu-again s hb none =
     let sum : le 2 (crc (fields.Read 0 2 s (none .0))) ≡ drop at s =
     ap (λ (m : List ℕ). le 2 (crc m)) (fields.read-message 0 2 s (none .0))
     ∙ ap (le 2) (sym same)
-    ∙ ap (λ (w : ℕ). le w (crcOf s)) (sym (length-field s at 2))
-    ∙ le-ofLe (field s at 2) (field-bytes s at 2 hb)
+    ∙ number-again s at 2 hb
     ∙ fields.read-tail 0 2 s (none .0) in
     fields.read-again 0 2 s (none .0) [] (le 2 (crc (fields.Read 0 2 s (none .0)))) refl sum
 
@@ -93,10 +93,9 @@ pub rtu-writes-again : (s : List ℕ) (e : Rtu) (out : List ℕ) (r : Written) (
     → readRtu s ≡ FoundRtu e → length s ≤ length out
     → WritesEnvelope (rtuData s) (rtuBytes (e .address) (e .function) (rtuData s)) out r out′
     → (r ≡ Length (length s)) × (out′ ≡ over out s)
-unfolding readRtu
 rtu-writes-again s e out r out′ hb q room w =
-    let ok = rtu-accepted (first (rtuRules s)) s e q in
-    let none = none-first (rtuRules s) tt (ok .0) in
+    let ok = rtu-accepted s e q in
+    let none = ok .0 in
     let same : rtuBytes (e .address) (e .function) (rtuData s) ≡ s =
     ap (λ (x : Rtu). rtuBytes (x .address) (x .function) (rtuData s)) (sym (ok .1)) ∙ rtu-again s hb none in
     fields.written-whole (rtuData s) s out r out′
@@ -154,7 +153,7 @@ module _ (t u f : ℕ) (d : List ℕ) where
       let eu = fields.written-address (tcpHead t N) [] 6 0 six refl u f d in
       let ef = fields.written-function (tcpHead t N) [] 6 0 six refl u f d in
       let same : FoundTcp (tcpOf P) ≡ FoundTcp (record { transaction = t; unit = u; function = f }) = cc (et, eu, ef) in
-      (ap (λ (n : ℕ). tcpAnswer n P) (first-none (tcpRules P) none) ∙ same, fields.written-data (tcpHead t N) [] 6 0 six refl u f d)
+      (answered-none TcpRefused (FoundTcp (tcpOf P)) _ (first-none (tcpRules P) none) ∙ same, fields.written-data (tcpHead t N) [] 6 0 six refl u f d)
 
 pub tcp-reads-back : (t u f : ℕ) (d out : List ℕ) (r : Written) (out′ : List ℕ) (k : ℕ) → t < 65536
     → WritesEnvelope d (tcpBytes t u f d) out r out′ → r ≡ Length k
@@ -165,11 +164,12 @@ tcp-reads-back t u f d out r out′ k ht w e =
     (ap readTcp (front .1) ∙ back .0, ap tcpData (front .1) ∙ back .1)
 
 -- ---- TCP, read
-tcp-accepted : (n : ℕ) (s : List ℕ) (e : Tcp) → tcpAnswer n s ≡ FoundTcp e → (n ≡ 0) × (tcpOf s ≡ e)
-tcp-accepted zero s e q = (refl, (cc))
-tcp-accepted (suc n) s e q =
-    let z : _≡_ {A = ℕ} 0 1 = cc in
-    absurd (omega arith)
+tcp-accepted : (s : List ℕ) (e : Tcp) → readTcp s ≡ FoundTcp e → NoneHolds (tcpRules s) × (tcpOf s ≡ e)
+unfolding readTcp
+tcp-accepted s e q =
+    let ok = accepted-as TcpRefused (FoundTcp (tcpOf s)) (λ r. toldTcpRead r .number) (λ n. refl) (first (tcpRules s)) (FoundTcp e) q refl in
+    let same : FoundTcp (tcpOf s) ≡ FoundTcp e = ok .1 in
+    (none-first (tcpRules s) tt (ok .0), (cc))
 
 -- a number read from two bytes, written again
 again : (s : List ℕ) (at : ℕ) → Bytes s → be 2 (ofBe (field s at 2)) ≡ field s at 2
@@ -195,10 +195,9 @@ pub tcp-writes-again : (s : List ℕ) (e : Tcp) (out : List ℕ) (r : Written) (
     → readTcp s ≡ FoundTcp e → length s ≤ length out
     → WritesEnvelope (tcpData s) (tcpBytes (e .transaction) (e .unit) (e .function) (tcpData s)) out r out′
     → (r ≡ Length (length s)) × (out′ ≡ over out s)
-unfolding readTcp
 tcp-writes-again s e out r out′ hb q room w =
-    let ok = tcp-accepted (first (tcpRules s)) s e q in
-    let none = none-first (tcpRules s) tt (ok .0) in
+    let ok = tcp-accepted s e q in
+    let none = ok .0 in
     let same : tcpBytes (e .transaction) (e .unit) (e .function) (tcpData s) ≡ s =
     ap (λ (x : Tcp). tcpBytes (x .transaction) (x .unit) (x .function) (tcpData s)) (sym (ok .1)) ∙ tcp-again s hb none in
     fields.written-whole (tcpData s) s out r out′

@@ -5,10 +5,10 @@ use mathlib.Core.List.{List, _++_, append-assoc, append-nil}
 use Prim.Native.Nat.{ℕ, suc, _+_, _≤_}
 use native.Mathlib.Numerals.{add-one}
 use native.Mathlib.Omega.{arith}
-use lib.ListN.{length, set, take, length-append, length-reverse}
+use lib.ListN.{length, set, take, length-append}
 use lib.Seq.{sets}
 use Rattle.checksum.specs.Crc.{crc}
-use Rattle.wire.specs.Numbers.{be, le, digits}
+use Rattle.wire.specs.Numbers.{be, le}
 use Rattle.wire.proofs.Numbers.{length-be, length-le}
 use Rattle.wire.proofs.Writing.{sets-then, take-sets}
 use Rattle.modbus.specs.Envelope.{message}

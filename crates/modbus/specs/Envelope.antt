@@ -41,13 +41,13 @@ abbrev pub tooMuch : List ℕ → Bool
 tooMuch «data» = ltb 252 (length «data»)
 
 -- 16 output shorter than needed
-abbrev pub noRoom : List ℕ → List ℕ → Bool
-noRoom bytes out = ltb (length out) (length bytes)
+abbrev pub noRoom : ℕ → List ℕ → Bool
+noRoom needed out = ltb (length out) needed
 
--- the order of writing
-abbrev pub writeRules : List ℕ → List ℕ → List ℕ → List Rule
-writeRules «data» bytes out = 17 when tooMuch «data» ∷ 16 when noRoom bytes out ∷ []
+-- "writing, field faults first, then 17, then 16"
+abbrev pub writeRules : List ℕ → ℕ → List ℕ → List Rule
+writeRules «data» needed out = 17 when tooMuch «data» ∷ 16 when noRoom needed out ∷ []
 
 -- what a writer owes that puts data in an envelope, which is then `bytes`: the answer r and the output out′
 abbrev pub WritesEnvelope : List ℕ → List ℕ → List ℕ → Written → List ℕ → Type 0
-WritesEnvelope «data» bytes out r out′ = Writes (first (writeRules «data» bytes out)) bytes out r out′
+WritesEnvelope «data» bytes out r out′ = Writes (first (writeRules «data» (length bytes) out)) bytes out r out′

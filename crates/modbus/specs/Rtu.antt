@@ -1,11 +1,12 @@
--- The RTU envelope: address, function, data 0 to 252, CRC. CRC covers all before it, and is sent low byte first.
+-- The RTU envelope. CRC is the last two bytes received, and covers all before it.
 -- Assumes nothing.
-use Prim.Native.Nat.{ℕ, zero, suc, _-_}
+use Prim.Native.Nat.{ℕ, _-_}
 use mathlib.Core.Bool.{Bool, not}
 use mathlib.Core.List.{List, [], _∷_}
 use lib.Dec.{eqb}
 use lib.ListN.{length, take}
 use Rattle.checksum.specs.Crc.{crc}
+use Rattle.wire.specs.Answer.{answered}
 use Rattle.wire.specs.Numbers.{le, ofLe, field}
 use Rattle.wire.specs.Refusal.{Rule, _when_, first}
 use Rattle.wire.specs.Told.{Told, accepted, refused}
@@ -14,6 +15,7 @@ use Rattle.modbus.specs.declared.Rtu.{Rtu}
 use Rattle.modbus.specs.declared.RtuRead.{RtuRead}
 use Rattle.modbus.specs.declared.RtuRead.the-variants.{Rtu as Found, Refused}
 
+-- "RTU: address, function, data 0 to 252, CRC." "It is sent low byte first." "The same rule serves Pulsar-M and Modbus RTU."
 unfoldable pub rtuBytes : ℕ → ℕ → List ℕ → List ℕ
 rtuBytes address function «data» = enveloped [] (message address function «data») (le 2 (crc (message address function «data»)))
 
@@ -39,7 +41,7 @@ rtuLong s = tooLong 0 2 s
 abbrev pub badCrc : List ℕ → Bool
 badCrc s = not (eqb (crcOf s) (crc (coveredOf s)))
 
--- the order of reading
+-- "Order is by number"
 abbrev pub rtuRules : List ℕ → List Rule
 rtuRules s = 40 when rtuShort s ∷ 41 when rtuLong s ∷ 44 when badCrc s ∷ []
 
@@ -47,13 +49,8 @@ rtuRules s = 40 when rtuShort s ∷ 41 when rtuLong s ∷ 44 when badCrc s ∷ [
 abbrev pub rtuOf : List ℕ → Rtu
 rtuOf s = record { address = addressOf 0 s; function = functionOf 0 s }
 
--- the answer where the refusal is n: with 0, for none, the envelope
-abbrev pub rtuAnswer : ℕ → List ℕ → RtuRead
-rtuAnswer zero s = Found (rtuOf s)
-rtuAnswer (suc n) s = Refused (suc n)
-
 unfoldable pub readRtu : List ℕ → RtuRead
-readRtu s = rtuAnswer (first (rtuRules s)) s
+readRtu s = answered Refused (Found (rtuOf s)) (first (rtuRules s))
 
 abbrev pub toldRtuRead : RtuRead → Told
 toldRtuRead (Found e) = accepted (e .address ∷ e .function ∷ [])

@@ -1,11 +1,11 @@
--- The TCP envelope: transaction 2, protocol 2 (zero), length 2, unit 1, function 1, data 0 to 252. Numbers are most significant first, and
--- length counts all after itself. The unit stands in the address's place.
+-- The TCP envelope. The unit stands in the address's place.
 -- Assumes nothing.
-use Prim.Native.Nat.{ℕ, zero, suc}
+use Prim.Native.Nat.{ℕ}
 use mathlib.Core.Bool.{Bool, not}
 use mathlib.Core.List.{List, [], _∷_, _++_}
 use lib.Dec.{eqb}
 use lib.ListN.{length, drop}
+use Rattle.wire.specs.Answer.{answered}
 use Rattle.wire.specs.Numbers.{be, ofBe, field}
 use Rattle.wire.specs.Refusal.{Rule, _when_, first}
 use Rattle.wire.specs.Told.{Told, accepted, refused}
@@ -14,7 +14,8 @@ use Rattle.modbus.specs.declared.Tcp.{Tcp}
 use Rattle.modbus.specs.declared.TcpRead.{TcpRead}
 use Rattle.modbus.specs.declared.TcpRead.the-variants.{Tcp as Found, Refused}
 
--- transaction, protocol, and length, of which n bytes follow
+-- "TCP: transaction 2, protocol 2 (zero), length 2, unit 1, function 1, data 0 to 252; numbers most significant first; length counts all
+-- after itself", which is n bytes
 unfoldable pub tcpHead : ℕ → ℕ → List ℕ
 tcpHead transaction n = be 2 transaction ++ (be 2 0 ++ be 2 n)
 
@@ -22,7 +23,7 @@ unfoldable pub tcpBytes : ℕ → ℕ → ℕ → List ℕ → List ℕ
 tcpBytes transaction unit function «data» =
     enveloped (tcpHead transaction (length (message unit function «data»))) (message unit function «data») []
 
--- the fields of the bytes received
+-- the fields of the bytes received: "transaction 2, protocol 2 (zero), length 2"
 abbrev pub transactionOf : List ℕ → ℕ
 transactionOf s = ofBe (field s 0 2)
 
@@ -35,7 +36,7 @@ lengthOf s = ofBe (field s 4 2)
 abbrev pub tcpData : List ℕ → List ℕ
 tcpData s = dataOf 6 0 s
 
--- 40 TCP under 8 bytes
+-- 40 TCP under 8
 abbrev pub tcpShort : List ℕ → Bool
 tcpShort s = tooShort 6 0 s
 
@@ -51,7 +52,7 @@ badProtocol s = not (eqb (protocolOf s) 0)
 abbrev pub badLength : List ℕ → Bool
 badLength s = not (eqb (lengthOf s) (length (drop 6 s)))
 
--- the order of reading
+-- "Order is by number"
 abbrev pub tcpRules : List ℕ → List Rule
 tcpRules s =
     40 when tcpShort s
@@ -64,13 +65,8 @@ tcpRules s =
 abbrev pub tcpOf : List ℕ → Tcp
 tcpOf s = record { transaction = transactionOf s; unit = addressOf 6 s; function = functionOf 6 s }
 
--- the answer where the refusal is n: with 0, for none, the envelope
-abbrev pub tcpAnswer : ℕ → List ℕ → TcpRead
-tcpAnswer zero s = Found (tcpOf s)
-tcpAnswer (suc n) s = Refused (suc n)
-
 unfoldable pub readTcp : List ℕ → TcpRead
-readTcp s = tcpAnswer (first (tcpRules s)) s
+readTcp s = answered Refused (Found (tcpOf s)) (first (tcpRules s))
 
 abbrev pub toldTcpRead : TcpRead → Told
 toldTcpRead (Found e) = accepted (e .transaction ∷ e .unit ∷ e .function ∷ [])

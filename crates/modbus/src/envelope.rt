@@ -4,7 +4,8 @@ ghost use Prim.Native.Nat.{_+_, _≤_};
 ghost use lib.Dec.{ltb};
 ghost use lib.ListN.{length};
 ghost use lib.Seq.{sets};
-ghost use Rattle.modbus.specs.Envelope.{message, tooMuch};
+ghost use Rattle.wire.specs.Refusal.{first};
+ghost use Rattle.modbus.specs.Envelope.{message, tooMuch, noRoom, writeRules};
 
 pub fn too_short(bytes: &[u8], least: usize) -> bool
     ensures { λ r. ⌜ r ≡ ltb (length (now (bytes .entry))) least ⌝ }
@@ -18,10 +19,29 @@ pub fn too_long(bytes: &[u8], most: usize) -> bool
     most < bytes.len()
 }
 
-pub fn too_much(data: &[u8]) -> bool
+fn too_much(data: &[u8]) -> bool
     ensures { λ r. ⌜ r ≡ tooMuch (now («data» .entry)) ⌝ }
 {
     252 < data.len()
+}
+
+fn no_room(needed: usize, out: &[u8]) -> bool
+    ensures { λ r. ⌜ r ≡ noRoom needed (now (out .entry)) ⌝ }
+{
+    out.len() < needed
+}
+
+// The first fault in writing an envelope that needs so many bytes, 0 for none.
+pub fn write_fault(data: &[u8], needed: usize, out: &[u8]) -> u8
+    ensures { λ r. ⌜ r ≡ first (writeRules (now («data» .entry)) needed (now (out .entry))) ⌝ }
+{
+    if too_much(data) {
+        return 17;
+    }
+    if no_room(needed, out) {
+        return 16;
+    }
+    0
 }
 
 // From a place on, in an output that has room.

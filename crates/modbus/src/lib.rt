@@ -36,7 +36,7 @@ pub enum TcpRead {
 fn bad_crc(bytes: &[u8]) -> bool
     ensures { λ r. ⌜ r ≡ badCrc (now (bytes .entry)) ⌝ }
 {
-    let n = wire::less(bytes.len(), 2);
+    let n = wire::minus(bytes.len(), 2);
     wire::le16_at(bytes, n) != checksum::checksum(wire::front(bytes, n))
 }
 
@@ -72,7 +72,7 @@ pub fn read_rtu(bytes: &[u8]) -> RtuRead
 pub fn rtu_data(bytes: &[u8]) -> &[u8]
     ensures { λ r. ⌜ now r ≡ rtuData (now (bytes .entry)) ⌝ }
 {
-    wire::front(wire::rest(bytes, 2), wire::less(bytes.len(), 4))
+    wire::front(wire::rest(bytes, 2), wire::minus(bytes.len(), 4))
 }
 
 fn put_rtu(address: u8, function: u8, data: &[u8], out: &mut [u8])
@@ -89,12 +89,10 @@ fn put_rtu(address: u8, function: u8, data: &[u8], out: &mut [u8])
 pub fn write_rtu(address: u8, function: u8, data: &[u8], out: &mut [u8]) -> wire::Written
     ensures { λ r. ⌜ WritesEnvelope (now («data» .entry)) (rtuBytes address function (now («data» .entry))) (now (out .entry)) r (now (out .exit)) ⌝ }
 {
-    if envelope::too_much(data) {
-        return wire::Written::Refused(17);
-    }
     let n = data.len() + 4;
-    if out.len() < n {
-        return wire::Written::Refused(16);
+    let no = envelope::write_fault(data, n, out);
+    if no != 0 {
+        return wire::Written::Refused(no);
     }
     put_rtu(address, function, data, out);
     wire::Written::Length(n)
@@ -149,7 +147,7 @@ pub fn read_tcp(bytes: &[u8]) -> TcpRead
 pub fn tcp_data(bytes: &[u8]) -> &[u8]
     ensures { λ r. ⌜ now r ≡ tcpData (now (bytes .entry)) ⌝ }
 {
-    wire::front(wire::rest(bytes, 8), wire::less(bytes.len(), 8))
+    wire::front(wire::rest(bytes, 8), wire::minus(bytes.len(), 8))
 }
 
 fn put_tcp(transaction: u16, unit: u8, function: u8, data: &[u8], out: &mut [u8])
@@ -172,12 +170,10 @@ pub fn write_tcp(
 ) -> wire::Written
     ensures { λ r. ⌜ WritesEnvelope (now («data» .entry)) (tcpBytes transaction unit function (now («data» .entry))) (now (out .entry)) r (now (out .exit)) ⌝ }
 {
-    if envelope::too_much(data) {
-        return wire::Written::Refused(17);
-    }
     let n = data.len() + 8;
-    if out.len() < n {
-        return wire::Written::Refused(16);
+    let no = envelope::write_fault(data, n, out);
+    if no != 0 {
+        return wire::Written::Refused(no);
     }
     put_tcp(transaction, unit, function, data, out);
     wire::Written::Length(n)

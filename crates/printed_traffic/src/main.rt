@@ -1,19 +1,54 @@
-// The reply that document 001 prints in session 2, fed to a receiver: as it is printed, with its offsets counted from its START as a host must
-// count them, and from a receiver at 141; and the edges that are run. One line for each answer.
+// The reply that document 001 prints in session 2, its four frames one after another on standard input, fed to a receiver: as it is printed,
+// with its offsets counted from its START as a host must count them, and from a receiver at 141; and the edges that are run. One line for
+// each answer, and after the completion the file that stands in the buffer.
+use libc::STDIN_FILENO;
+use libc::STDOUT_FILENO;
 use sm160_frame::FrameRead;
 use sm160_receiver::Answer;
 use sm160_receiver::Receiver;
 use wire::Written;
 
 fn line(word: &[u8]) {
-    io::write_all(1, word);
-    io::write_all(1, b"\n");
+    io::write_all(STDOUT_FILENO, word);
+    io::write_all(STDOUT_FILENO, b"\n");
 }
 
 fn say(word: &[u8], n: u64) {
-    io::write_all(1, word);
-    io::print_decimal(1, n);
-    io::write_all(1, b"\n");
+    io::write_all(STDOUT_FILENO, word);
+    io::print_decimal(STDOUT_FILENO, n);
+    io::write_all(STDOUT_FILENO, b"\n");
+}
+
+// A byte as text, a point where it is none.
+fn shown(b: u8) -> u8 {
+    if (b' ' <= b) & (b <= b'~') { b } else { b'.' }
+}
+
+fn show_byte(b: u8) {
+    io::print_hex(STDOUT_FILENO, b as u64, 2);
+    io::write_all(STDOUT_FILENO, b" ");
+}
+
+// Up to 16 bytes: in hexadecimal, then as text.
+fn show_line(s: &[u8]) {
+    let mut text = [b' '; 16];
+    let mut i = 0;
+    while i < s.len() {
+        show_byte(s[i]);
+        wire::put(&mut text, i, shown(s[i]));
+        i += 1;
+    }
+    io::write_all(STDOUT_FILENO, b" ");
+    line(wire::front(&text, s.len()));
+}
+
+// Bytes, 16 a line.
+fn show(s: &[u8]) {
+    let mut i = 0;
+    while i < s.len() {
+        show_line(wire::front(wire::rest(s, i), 16));
+        i += 16;
+    }
 }
 
 fn tell(answer: Answer) {
@@ -62,11 +97,20 @@ fn turn_rebased(state: Receiver, frame: &[u8], buffer: &mut [u8]) -> Receiver {
     turn(state, wire::front(&out, n), buffer)
 }
 
-// The first frame alone, at a receiver that is opened for it.
-fn first_rebased(frame: &[u8], buffer: &mut [u8]) {
+// The same, with the receiver given by its plain fields.
+fn turn_plain(state: Receiver, frame: &[u8], buffer: &mut [u8]) -> Receiver {
     let mut out = [0u8; 252];
     let n = rebase(frame, 73, &mut out);
-    tell(sm160_receiver::receive_first(2, wire::front(&out, n), buffer));
+    let r = sm160_receiver::receive_plain(
+        state.session,
+        state.under_way,
+        state.count,
+        wire::front(&out, n),
+        buffer,
+    );
+    let answer = r.answer;
+    tell(answer);
+    r.state
 }
 
 fn at(count: usize) -> Receiver {
@@ -93,8 +137,9 @@ fn counted_from_start(first: &[u8], second: &[u8], third: &[u8], last: &[u8]) {
     let b = turn_rebased(a, second, &mut buffer);
     let c = turn_rebased(b, third, &mut buffer);
     let d = turn_rebased(c, last, &mut buffer);
-    turn_rebased(d, last, &mut buffer);
-    first_rebased(first, &mut buffer);
+    show(wire::front(&buffer, 245));
+    let e = turn_rebased(d, last, &mut buffer);
+    turn_plain(e, first, &mut buffer);
 }
 
 fn from_141(second: &[u8], third: &[u8], last: &[u8]) {
@@ -117,7 +162,12 @@ fn start_again(first: &[u8], second: &[u8]) {
     turn_rebased(d, second, &mut buffer);
 }
 
-fn feed(first: &[u8], second: &[u8], third: &[u8], last: &[u8]) {
+// The four frames of the reply, one after another.
+fn feed(reply: &[u8]) {
+    let first = wire::front(reply, 80);
+    let second = wire::front(wire::rest(reply, 80), 80);
+    let third = wire::front(wire::rest(reply, 160), 80);
+    let last = wire::rest(reply, 240);
     as_printed(first, second, third, last);
     counted_from_start(first, second, third, last);
     from_141(second, third, last);
@@ -155,11 +205,8 @@ fn frames() {
 }
 
 fn main() {
-    feed(
-        b"\x02\x00\x49\x00\x00\x00\x44\x00\x35\x7a\x02\x00\x87\x00\x09\x00\x00\x00\x00\x00\x00\x00\x02\x00\x4f\x4b\x00\xd6\x00\x3c\x72\x20\x53\x3d\x22\x32\x30\x31\x33\x30\x31\x32\x32\x30\x30\x30\x30\x35\x31\x35\x32\x34\x32\x37\x39\x22\x20\x4e\x3d\x22\x73\x65\x6c\x66\x5c\x47\x50\x52\x53\x5c\x53\x74\x61\x74\x65\x5c\x44\x49\x22\x20",
-        b"\x02\x00\x8d\x00\x00\x00\x44\x00\x69\xd3\x00\x00\x56\x3d\x22\x30\x22\x20\x45\x3d\x22\x34\x31\x36\x22\x20\x2f\x3e\x0a\x3c\x72\x20\x53\x3d\x22\x32\x30\x31\x33\x30\x31\x32\x32\x30\x30\x30\x30\x35\x36\x35\x38\x31\x37\x31\x36\x22\x20\x4e\x3d\x22\x73\x65\x6c\x66\x5c\x47\x50\x52\x53\x5c\x54\x72\x61\x66\x66\x69\x63\x5c\x52\x58",
-        b"\x02\x00\xd1\x00\x00\x00\x44\x00\x9c\xbd\x00\x00\x5c\x41\x49\x22\x20\x56\x3d\x22\x30\x22\x20\x45\x3d\x22\x34\x31\x36\x22\x20\x2f\x3e\x0a\x3c\x72\x20\x53\x3d\x22\x32\x30\x31\x33\x30\x31\x32\x32\x30\x30\x30\x30\x35\x36\x35\x38\x31\x38\x33\x33\x22\x20\x4e\x3d\x22\x73\x65\x6c\x66\x5c\x47\x50\x52\x53\x5c\x54\x72\x61\x66\x66",
-        b"\x02\x00\x15\x01\x00\x00\x29\x00\x60\x55\x04\x00\x69\x63\x5c\x54\x58\x5c\x41\x49\x22\x20\x56\x3d\x22\x30\x22\x20\x45\x3d\x22\x34\x31\x36\x22\x20\x2f\x3e\x0a\x00\x00\xda\x00\x00\x00\x00\x00\x00\x00\x01\x86\x40\x21",
-    );
+    let mut reply = [0u8; 293];
+    io::read_full(STDIN_FILENO, &mut reply);
+    feed(&reply);
     frames();
 }

@@ -4,11 +4,15 @@ use mathlib.Core.Path.{refl}
 use Rattle.checksum.specs.Crc.{crcFrom, crcBits}
 use Rattle.wire.specs.Numbers.{field, digits, number, le, ofLe, bcd, ofBcd, isBcd}
 use Rattle.wire.specs.Refusal.{pick}
-use Rattle.wire.specs.Told.{Holds}
+use Rattle.wire.specs.Told.{AllHold}
 use Rattle.pulsar_frame.specs.Layout.{frameBody, frameBytes}
 use Rattle.pulsar_frame.specs.Reading.{readAtMeter}
-use Rattle.pulsar_frame.specs.Edges.{frameEdges}
+use Rattle.pulsar_frame.specs.Edges.{frameEdges, frameBeside}
 
-pub frame-edges : Holds frameEdges
+pub frame-edges : AllHold frameEdges
+unfolding readAtMeter crcFrom crcBits field isBcd ofBcd ofLe number pick
+frame-edges = (refl, (refl, (refl, (refl, (refl, tt)))))
+
+pub frame-beside : AllHold frameBeside
 unfolding readAtMeter frameBytes frameBody crcFrom crcBits field isBcd ofBcd bcd le digits ofLe number pick
-frame-edges = (refl, (refl, (refl, (refl, (refl, (refl, (refl, tt)))))))
+frame-beside = (refl, (refl, tt))

@@ -1,8 +1,8 @@
 pub mod Stores
-pub mod Answers
 pub mod Parts
 pub mod Readers
 pub mod RoundTrip
+pub mod Beyond
 pub mod Order
 pub mod Edges
 pub mod Unique

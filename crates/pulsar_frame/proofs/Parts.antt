@@ -1,6 +1,6 @@
 -- The fields of a frame that was written, with anything after it, and the frame of the fields that were read.
 -- Assumes nothing.
-use mathlib.Core.Path.{_≡_, refl, sym, ap, ap₂, _∙_, subst}
+use mathlib.Core.Path.{_≡_, refl, sym, ap, ap₂, _∙_}
 use mathlib.Core.Bool.{false, not}
 use mathlib.Core.List.{List, [], _∷_, _++_, append-assoc}
 use Prim.Native.Nat.{ℕ, _+_, _-_, _^_, _<_, _≤_}
@@ -14,14 +14,18 @@ use Rattle.checksum.specs.Crc.{crc}
 use Rattle.checksum.proofs.Laws.{crcFrom-lt}
 use Rattle.wire.specs.Each.{Bytes}
 use Rattle.wire.specs.Numbers.{bcd, le, ofBcd, ofLe, isBcd, field, digits}
-use Rattle.wire.proofs.Bools.{T-true, true-T, or-false, false-or}
+use Rattle.wire.proofs.Bools.{T-true, true-T, or-neither, neither-or}
 use Rattle.wire.proofs.Each.{each-append, getD-each}
-use Rattle.wire.proofs.Numbers.{length-bcd, length-le, ofBcd-bcd, ofBcd-lt, bcd-ofBcd, bcd-isBcd, bcd-bytes, ofLe-le, le-ofLe, le-bytes, ofLe-lt}
-use Rattle.wire.proofs.Fields.{field-at, field-take, field-append, length-field, field-bytes}
+use Rattle.wire.proofs.Numbers.{length-bcd, ofBcd-bcd, ofBcd-lt, bcd-ofBcd, bcd-isBcd, bcd-bytes, le-bytes}
+use Rattle.wire.proofs.Fields.{field-at, field-take, field-append, length-field, number-at, number-again}
 use Rattle.pulsar_frame.specs.Layout.{frameBody, frameBytes, lenOf, addressOf, functionOf, payloadOf, idOf, crcOf, coveredOf}
 use Rattle.pulsar_frame.specs.Reading.{tooShort, notBcd, badLength, badCrc}
-use Rattle.pulsar_frame.specs.Promise.{Typed}
 use Rattle.pulsar_frame.proofs.Stores.{length-body, length-frame}
+
+-- a frame of which all bytes came
+pub all-came : (s : List ℕ) → 10 ≤ lenOf s → lenOf s ≤ length s → badLength s ≡ false
+all-came s least most =
+    neither-or (ltb (lenOf s) 10) (ltb (length s) (lenOf s)) (le-ltb (lenOf s) 10 least) (le-ltb (length s) (lenOf s) most)
 
 -- ---- what was written
 module _ (a f id : ℕ) (p rest : List ℕ) where
@@ -76,9 +80,8 @@ module _ (a f id : ℕ) (p rest : List ℕ) where
   pub written-id : id < 65536 → idOf S ≡ id
   written-id h =
       let at : length (bcd 4 a ++ Head ++ p) ≡ lenOf S - 4 = simp (length-append, length-bcd) (omega (arith, written-len)) in
-      ap ofLe (ap (λ (s : List ℕ). field s (lenOf S - 4) 2) from-id
-      ∙ field-at (bcd 4 a ++ Head ++ p) (le 2 id) (Crc ++ rest) (lenOf S - 4) 2 at (length-le 2 id))
-      ∙ ofLe-le 2 id h
+      ap (λ (s : List ℕ). ofLe (field s (lenOf S - 4) 2)) from-id
+      ∙ number-at (bcd 4 a ++ Head ++ p) (Crc ++ rest) (lenOf S - 4) 2 id at h
 
   body-at : length (frameBody a f id p) ≡ lenOf S - 2
   body-at = omega (arith, written-len, length-body a f id p)
@@ -98,28 +101,23 @@ module _ (a f id : ℕ) (p rest : List ℕ) where
       let c = crc (frameBody a f id p) in
       let small : c < 65536 = crcFrom-lt 0xFFFF (frameBody a f id p) (omega arith) (body-bytes hf hl hp) in
       let e : crcOf S ≡ c =
-      ap ofLe (ap (λ (s : List ℕ). field s (lenOf S - 2) 2) from-crc
-      ∙ field-at (frameBody a f id p) Crc rest (lenOf S - 2) 2 body-at (length-le 2 c))
-      ∙ ofLe-le 2 c small in
+      ap (λ (s : List ℕ). ofLe (field s (lenOf S - 2) 2)) from-crc ∙ number-at (frameBody a f id p) rest (lenOf S - 2) 2 c body-at small in
       ap not (eq-eqb (crcOf S) (crc (coveredOf S)) (e ∙ ap crc (sym written-covered)))
 
   pub written-long : tooShort S ≡ false
   written-long = le-ltb (length S) 10 (simp (length-append, length-frame) (omega arith))
 
   pub written-length : badLength S ≡ false
-  written-length =
-      false-or (ltb (lenOf S) 10) (ltb (length S) (lenOf S))
-      (le-ltb (lenOf S) 10 (omega (arith, written-len)))
-      (le-ltb (length S) (lenOf S) (rw written-len (simp (length-append, length-frame) (omega arith))))
+  written-length = all-came S (omega (arith, written-len)) (rw written-len (simp (length-append, length-frame) (omega arith)))
 
 -- ---- what was read
 
 module _ (s : List ℕ) (whole : badLength s ≡ false) where
   pub ten : 10 ≤ lenOf s
-  ten = ltb-false (lenOf s) 10 (or-false (ltb (lenOf s) 10) (ltb (length s) (lenOf s)) whole .0)
+  ten = ltb-false (lenOf s) 10 (or-neither (ltb (lenOf s) 10) (ltb (length s) (lenOf s)) whole .0)
 
   pub within : lenOf s ≤ length s
-  within = ltb-false (length s) (lenOf s) (or-false (ltb (lenOf s) 10) (ltb (length s) (lenOf s)) whole .1)
+  within = ltb-false (length s) (lenOf s) (or-neither (ltb (lenOf s) 10) (ltb (length s) (lenOf s)) whole .1)
 
 module _ (s : List ℕ) (bytes : Bytes s) (isDecimal : notBcd s ≡ false) (least : 10 ≤ lenOf s) (most : lenOf s ≤ length s) where
   abbrev P : List ℕ
@@ -135,10 +133,6 @@ module _ (s : List ℕ) (bytes : Bytes s) (isDecimal : notBcd s ≡ false) (leas
   address-bytes =
       ap (λ (w : ℕ). bcd w (addressOf s)) (sym (length-field s 0 4))
       ∙ bcd-ofBcd (field s 0 4) (true-T (isBcd (field s 0 4)) (not-false (isBcd (field s 0 4)) isDecimal))
-
-  number-bytes : (at : ℕ) → le 2 (ofLe (field s at 2)) ≡ field s at 2
-  number-bytes at =
-      ap (λ (w : ℕ). le w (ofLe (field s at 2))) (sym (length-field s at 2)) ∙ le-ofLe (field s at 2) (field-bytes s at 2 bytes)
 
   head-bytes : functionOf s ∷ (length P + 10) ∷ [] ≡ field s 4 2
   unfolding field
@@ -159,14 +153,14 @@ module _ (s : List ℕ) (bytes : Bytes s) (isDecimal : notBcd s ≡ false) (leas
 
   read-body : frameBody (addressOf s) (functionOf s) (idOf s) P ≡ coveredOf s
   unfolding frameBody
-  read-body = cc (address-bytes, head-bytes, payload-field, number-bytes (lenOf s - 4), body-parts)
+  read-body = cc (address-bytes, head-bytes, payload-field, number-again s (lenOf s - 4) 2 bytes, body-parts)
 
   pub read-frame : badCrc s ≡ false → frameBytes (addressOf s) (functionOf s) (idOf s) P ≡ take (lenOf s) s
   unfolding frameBytes
   read-frame good =
       let same : crcOf s ≡ crc (coveredOf s) = eqb-true (crcOf s) (crc (coveredOf s)) (not-false (eqb (crcOf s) (crc (coveredOf s))) good) in
       let e : lenOf s ≡ lenOf s - 2 + 2 = omega arith in
-      ap₂ (λ (x y : List ℕ). x ++ y) read-body (ap (le 2) (ap crc read-body ∙ sym same) ∙ number-bytes (lenOf s - 2))
+      ap₂ (λ (x y : List ℕ). x ++ y) read-body (ap (le 2) (ap crc read-body ∙ sym same) ∙ number-again s (lenOf s - 2) 2 bytes)
       ∙ ap (λ (l : List ℕ). l ++ field s (lenOf s - 2) 2) (sym (field-take s 0 (lenOf s - 2) (omega arith)))
       ∙ ap (λ (k : ℕ). field s 0 (lenOf s - 2) ++ field s k 2) (sym (zero-add (lenOf s - 2)))
       ∙ sym (field-append s 0 (lenOf s - 2) 2)
@@ -180,12 +174,3 @@ module _ (s : List ℕ) (bytes : Bytes s) (isDecimal : notBcd s ≡ false) (leas
 
   pub read-small : length P ≤ 245
   read-small = omega (arith, read-payload, getD-each (λ b. b < 256) (lit< tt) s bytes 5)
-
-  pub read-typed : Typed (functionOf s) (idOf s) P
-  read-typed =
-      let id : idOf s < 256 ^ 2 = rw length-field at (ofLe-lt (field s (lenOf s - 4) 2) (field-bytes s (lenOf s - 4) 2 bytes)) in
-      record {
-        function-fits = getD-each (λ b. b < 256) (lit< tt) s bytes 4;
-        id-fits = omega arith;
-        payload-fits = subst Bytes (sym payload-field) (field-bytes s 6 (lenOf s - 10) bytes);
-      }

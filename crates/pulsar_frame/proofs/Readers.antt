@@ -1,22 +1,22 @@
 -- What the readers accept: a frame that was written, and what they have found of bytes that they accept.
 -- Assumes nothing.
 use mathlib.Core.Path.{_≡_, refl, sym, ap, _∙_}
-use mathlib.Core.Bool.{Bool, true, false, not, _&&_, _||_}
+use mathlib.Core.Bool.{Bool, true, false, not, _&&_, _||_, true≢false}
 use mathlib.Core.List.{List, _++_}
-use mathlib.Core.Logic.{_⊎_, inl, inr, ⊎-elim}
-use Prim.Native.Nat.{ℕ, zero, suc, _+_, _≤_}
-use native.Mathlib.Omega.{arith}
+use mathlib.Core.Logic.{_⊎_, ⊎-elim}
+use Prim.Native.Nat.{ℕ, _+_, _≤_}
 use lib.Dec.{eqb}
 use lib.ListN.{length}
-use borrow.Author.Tests.{eq-eqb, ne-eqb, eqb-true, eqb-false, not-false}
+use borrow.Author.Tests.{eq-eqb, ne-eqb, eqb-true, eqb-false}
 use Rattle.wire.specs.Refusal.{first, NoneHolds}
+use Rattle.wire.proofs.Answer.{answered-none, accepted-as}
 use Rattle.wire.proofs.Refusal.{first-none, none-first}
 use Rattle.pulsar_frame.specs.Layout.{frameBytes, addressOf, functionOf, idOf}
-use Rattle.pulsar_frame.specs.Reading.{badOwn, badAsked, tooShort, notBcd, badLength, badCrc, notMine, notAsked, noFunction, otherFunction, otherId, meterRules, masterRules, frameOf, readAnswer, readAtMeter, readAtMaster}
+use Rattle.pulsar_frame.specs.Reading.{badOwn, badAsked, tooShort, notBcd, badLength, badCrc, notMine, notAsked, noFunction, otherFunction, otherId, meterRules, masterRules, frameOf, readAnswer, readAtMeter, readAtMaster, toldFrameRead}
 use Rattle.pulsar_frame.specs.Promise.{Typed}
 use Rattle.pulsar_frame.specs.declared.Frame.{Frame}
 use Rattle.pulsar_frame.specs.declared.FrameRead.{FrameRead}
-use Rattle.pulsar_frame.specs.declared.FrameRead.the-variants.{Frame as Found}
+use Rattle.pulsar_frame.specs.declared.FrameRead.the-variants.{Frame as Found, Refused}
 use Rattle.pulsar_frame.proofs.Parts.{written-function, written-len, written-bcd, written-address, written-id, written-crc, written-long, written-length}
 
 -- ---- tests, from facts and back
@@ -42,32 +42,15 @@ expected asked a pos =
 
 -- a reply that bears 0 is not it
 not-zero : (x y z : Bool) → not (not x && y || x && not z) ≡ false → z ≡ true → (x ≡ false) × (y ≡ true)
-not-zero true y true e t = absurd (let n : _≡_ {A = ℕ} 0 1 = cc in omega arith)
-not-zero true y false e t = absurd (let n : _≡_ {A = ℕ} 0 1 = cc in omega arith)
+not-zero true y true e t = absurd (true≢false e)
+not-zero true y false e t = absurd (true≢false (sym t))
 not-zero false true z e t = (refl, refl)
-not-zero false false z e t = absurd (let n : _≡_ {A = ℕ} 0 1 = cc in omega arith)
+not-zero false false z e t = absurd (true≢false e)
 
 bears-not : (asked a : ℕ) → otherAddress asked a ≡ false → a ≡ 0 → ⊥
 bears-not asked a e z =
     let p = not-zero (eqb asked 0) (eqb a asked) (eqb a 0) e (eq-eqb a 0 z) in
     eqb-false asked 0 (p .0) (sym (eqb-true a asked (p .1)) ∙ z)
-
-either : (x y : Bool) → not (x || y) ≡ false → (x ≡ true) ⊎ (y ≡ true)
-either true y e = inl refl
-either false true e = inr refl
-either false false e = absurd (let n : _≡_ {A = ℕ} 0 1 = cc in omega arith)
-
-of-one : (x a b : ℕ) → not (eqb x a || eqb x b) ≡ false → (x ≡ a) ⊎ (x ≡ b)
-of-one x a b e = ⊎-elim (λ t. inl (eqb-true x a t)) (λ t. inr (eqb-true x b t)) (either (eqb x a) (eqb x b) e)
-
-waited : (x y z : Bool) → not (not x && y || x && not z) ≡ false → (y ≡ true) ⊎ (x ≡ true)
-waited true y z e = inr refl
-waited false true z e = inl refl
-waited false false z e = absurd (let n : _≡_ {A = ℕ} 0 1 = cc in omega arith)
-
-asked-one : (asked a : ℕ) → otherAddress asked a ≡ false → (a ≡ asked) ⊎ (asked ≡ 0)
-asked-one asked a e =
-    ⊎-elim (λ t. inl (eqb-true a asked t)) (λ t. inr (eqb-true asked 0 t)) (waited (eqb asked 0) (eqb a asked) (eqb a 0) e)
 
 -- ---- a frame that was written, with anything after it, is accepted
 module _ (a f id : ℕ) (p rest : List ℕ) (typed : Typed f id p) (small : length p ≤ 245) (fits : a ≤ 99999999) where
@@ -103,7 +86,7 @@ module _ (a f id : ℕ) (p rest : List ℕ) (typed : Typed f id p) (small : leng
       let mine′ : notMine own S ≡ false = one-of (addressOf S) own 0 (rw (written-address a f id p rest fits) mine) in
       let asks′ : noFunction S ≡ false = ne-eqb (functionOf S) 0 (λ e. asks (sym (written-function a f id p rest) ∙ e)) in
       let none : NoneHolds (meterRules own S) = (good, (long, (decimal, (whole, (checked, (mine′, (asks′, tt))))))) in
-      ap (λ (n : ℕ). readAnswer n S) (first-none (meterRules own S) none) ∙ the-frame
+      answered-none Refused (Found (frameOf S)) _ (first-none (meterRules own S) none) ∙ the-frame
 
   pub master-reads : (asked g : ℕ) → badAsked asked g ≡ false → (a ≡ 0 → ⊥) → (a ≡ asked) ⊎ (asked ≡ 0) → (f ≡ g) ⊎ (f ≡ 0)
       → readAtMaster asked g id S ≡ Fields
@@ -114,7 +97,7 @@ module _ (a f id : ℕ) (p rest : List ℕ) (typed : Typed f id p) (small : leng
       let answers′ : otherFunction g S ≡ false = one-of (functionOf S) g 0 (rw (written-function a f id p rest) answers) in
       let same : otherId id S ≡ false = ap not (eq-eqb (idOf S) id (written-id a f id p rest (typed .id-fits))) in
       let none : NoneHolds (masterRules asked g id S) = (good, (long, (decimal, (mine′, (answers′, (whole, (checked, (same, tt)))))))) in
-      ap (λ (n : ℕ). readAnswer n S) (first-none (masterRules asked g id S) none) ∙ the-frame
+      answered-none Refused (Found (frameOf S)) _ (first-none (masterRules asked g id S) none) ∙ the-frame
 
 -- ---- what is accepted
 
@@ -125,51 +108,25 @@ pub record Accepted (s : List ℕ) (fr : Frame) : Type 0 where
   pub whole : badLength s ≡ false
   pub checked : badCrc s ≡ false
 
--- and each side of its own
-pub record AtMeter (own : ℕ) (s : List ℕ) (fr : Frame) : Type 0 where
-  pub accepted : Accepted s fr
-  pub good : badOwn own ≡ false
-  pub mine : (addressOf s ≡ own) ⊎ (addressOf s ≡ 0)
-  pub asks : noFunction s ≡ false
+found : (n : ℕ) (s : List ℕ) (fr : Frame) → readAnswer s n ≡ Found fr → (n ≡ 0) × (frameOf s ≡ fr)
+found n s fr e =
+    let ok = accepted-as Refused (Found (frameOf s)) (λ r. toldFrameRead r .number) (λ k. refl) n (Found fr) e refl in
+    let same : Found (frameOf s) ≡ Found fr = ok .1 in
+    (ok .0, (cc))
 
-pub record AtMaster (address function id : ℕ) (s : List ℕ) (fr : Frame) : Type 0 where
-  pub accepted : Accepted s fr
-  pub good : badAsked address function ≡ false
-  pub mine : (addressOf s ≡ address) ⊎ (address ≡ 0)
-  pub bears : addressOf s ≡ 0 → ⊥
-  pub answers : (functionOf s ≡ function) ⊎ (functionOf s ≡ 0)
-  pub same : idOf s ≡ id
-
-found : (n : ℕ) (s : List ℕ) (fr : Frame) → readAnswer n s ≡ Found fr → (n ≡ 0) × (frameOf s ≡ fr)
-found zero s fr e = (refl, (cc))
-found (suc n) s fr e =
-    let z : _≡_ {A = ℕ} 0 1 = cc in
-    absurd (omega arith)
-
-pub at-meter : (own : ℕ) (s : List ℕ) (fr : Frame) → readAtMeter own s ≡ Found fr → AtMeter own s fr
+-- the meter has found a function too
+pub at-meter : (own : ℕ) (s : List ℕ) (fr : Frame) → readAtMeter own s ≡ Found fr → Accepted s fr × (noFunction s ≡ false)
 unfolding readAtMeter
 at-meter own s fr e =
     let ok = found (first (meterRules own s)) s fr e in
-    let h = none-first (meterRules own s) tt (ok .0) in
-    let h₃ = h .1 .1 in
-    record {
-      accepted = record { frame = ok .1; decimal = h₃ .0; whole = h₃ .1 .0; checked = h₃ .1 .1 .0 };
-      good = h .0;
-      mine = of-one (addressOf s) own 0 (h₃ .1 .1 .1 .0);
-      asks = h₃ .1 .1 .1 .1 .0;
-    }
+    let h = none-first (meterRules own s) tt (ok .0) .1 .1 in
+    (record { frame = ok .1; decimal = h .0; whole = h .1 .0; checked = h .1 .1 .0 }, h .1 .1 .1 .1 .0)
 
-pub at-master : (address function id : ℕ) (s : List ℕ) (fr : Frame) → readAtMaster address function id s ≡ Found fr → AtMaster address function id s fr
+-- the master that the address is not 0
+pub at-master : (address function id : ℕ) (s : List ℕ) (fr : Frame) → readAtMaster address function id s ≡ Found fr
+    → Accepted s fr × (addressOf s ≡ 0 → ⊥)
 unfolding readAtMaster
 at-master address function id s fr e =
     let ok = found (first (masterRules address function id s)) s fr e in
-    let h = none-first (masterRules address function id s) tt (ok .0) in
-    let h₃ = h .1 .1 in
-    record {
-      accepted = record { frame = ok .1; decimal = h₃ .0; whole = h₃ .1 .1 .1 .0; checked = h₃ .1 .1 .1 .1 .0 };
-      good = h .0;
-      mine = asked-one address (addressOf s) (h₃ .1 .0);
-      bears = bears-not address (addressOf s) (h₃ .1 .0);
-      answers = of-one (functionOf s) function 0 (h₃ .1 .1 .0);
-      same = eqb-true (idOf s) id (not-false (eqb (idOf s) id) (h₃ .1 .1 .1 .1 .1 .0));
-    }
+    let h = none-first (masterRules address function id s) tt (ok .0) .1 .1 in
+    (record { frame = ok .1; decimal = h .0; whole = h .1 .1 .1 .0; checked = h .1 .1 .1 .1 .0 }, bears-not address (addressOf s) (h .1 .0))

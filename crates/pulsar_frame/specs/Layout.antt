@@ -1,5 +1,4 @@
--- The Pulsar-M frame: ADDRESS 4 bytes BCD, most significant first; FN 1; LEN 1; PAYLOAD 0 to 245; ID 2; CRC 2. LEN counts the whole
--- frame. Except ADDRESS, many-byte fields are least significant first. CRC covers all before it.
+-- The Pulsar-M frame.
 -- Assumes nothing.
 use Prim.Native.Nat.{ℕ, _+_, _-_}
 use mathlib.Core.List.{List, [], _∷_, _++_}
@@ -9,7 +8,8 @@ use Rattle.wire.specs.Numbers.{bcd, le, ofBcd, ofLe, field}
 
 -- ---- the bytes from the fields
 
--- all before CRC
+-- "ADDRESS 4 bytes BCD, most significant first; FN 1; LEN 1; PAYLOAD 0 to 245; ID 2; CRC 2. LEN counts the whole frame, 10 to 255. Except
+-- ADDRESS, many-byte fields are least significant first. CRC covers all before it." "It is sent low byte first."
 unfoldable pub frameBody : ℕ → ℕ → ℕ → List ℕ → List ℕ
 frameBody address function id payload = bcd 4 address ++ ((function ∷ (length payload + 10) ∷ []) ++ (payload ++ le 2 id))
 
@@ -17,7 +17,7 @@ unfoldable pub frameBytes : ℕ → ℕ → ℕ → List ℕ → List ℕ
 frameBytes address function id payload =
     frameBody address function id payload ++ le 2 (crc (frameBody address function id payload))
 
--- ---- the fields of the bytes received, which may go on beyond LEN
+-- ---- the fields of the bytes received: "ADDRESS 4 bytes BCD, most significant first; FN 1; LEN 1"
 abbrev pub addressOf : List ℕ → ℕ
 addressOf s = ofBcd (field s 0 4)
 
@@ -27,7 +27,7 @@ functionOf s = getD s 4 0
 abbrev pub lenOf : List ℕ → ℕ
 lenOf s = getD s 5 0
 
--- of a frame of len bytes: bytes 6 up to len - 4
+-- found from LEN: "PAYLOAD 0 to 245; ID 2; CRC 2"; "Bytes received beyond LEN are ignored."
 abbrev pub payloadOf : List ℕ → ℕ → List ℕ
 payloadOf s len = take (len - 10) (drop 6 s)
 
@@ -37,6 +37,6 @@ idOf s = ofLe (field s (lenOf s - 4) 2)
 abbrev pub crcOf : List ℕ → ℕ
 crcOf s = ofLe (field s (lenOf s - 2) 2)
 
--- what CRC covers
+-- "CRC covers all before it."
 abbrev pub coveredOf : List ℕ → List ℕ
 coveredOf s = take (lenOf s - 2) s

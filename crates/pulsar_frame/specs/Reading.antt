@@ -1,11 +1,12 @@
 -- What reading a frame answers: the conditions of the refusal table, their order at the meter and at the master, and the answer.
 -- Assumes nothing.
-use Prim.Native.Nat.{ℕ, zero, suc}
+use Prim.Native.Nat.{ℕ}
 use mathlib.Core.Bool.{Bool, not, _&&_, _||_}
 use mathlib.Core.List.{List, [], _∷_}
 use lib.Dec.{ltb, eqb}
 use lib.ListN.{length}
 use Rattle.checksum.specs.Crc.{crc}
+use Rattle.wire.specs.Answer.{answered}
 use Rattle.wire.specs.Numbers.{isBcd, field}
 use Rattle.wire.specs.Refusal.{Rule, _when_, first}
 use Rattle.wire.specs.Told.{Told, accepted, refused}
@@ -38,19 +39,19 @@ badLength s = ltb (lenOf s) 10 || ltb (length s) (lenOf s)
 abbrev pub badCrc : List ℕ → Bool
 badCrc s = not (eqb (crcOf s) (crc (coveredOf s)))
 
--- 6 not this address, at the meter: own or 0
+-- 6 not this address (meter: own or 0); "Address 0 is broadcast"
 abbrev pub notMine : ℕ → List ℕ → Bool
 notMine own s = not (eqb (addressOf s) own || eqb (addressOf s) 0)
 
--- 6 not this address, at the master: the asked one, and for asked 0 any but 0
+-- 6 not this address (.. master: the asked one, and for asked 0 any but 0); broadcast is "in requests only"
 abbrev pub notAsked : ℕ → List ℕ → Bool
 notAsked address s = not (not (eqb address 0) && eqb (addressOf s) address || eqb address 0 && not (eqb (addressOf s) 0))
 
--- 7 at the meter: function 0
+-- 7 meter: function 0
 abbrev pub noFunction : List ℕ → Bool
 noFunction s = eqb (functionOf s) 0
 
--- 7 at the master: function neither the asked one nor 0
+-- 7 master: function neither the asked one nor 0
 abbrev pub otherFunction : ℕ → List ℕ → Bool
 otherFunction function s = not (eqb (functionOf s) function || eqb (functionOf s) 0)
 
@@ -58,7 +59,7 @@ otherFunction function s = not (eqb (functionOf s) function || eqb (functionOf s
 abbrev pub otherId : ℕ → List ℕ → Bool
 otherId id s = not (eqb (idOf s) id)
 
--- the order at the meter
+-- at the meter: "Order is by number"
 abbrev pub meterRules : ℕ → List ℕ → List Rule
 meterRules own s =
     1 when badOwn own
@@ -70,7 +71,7 @@ meterRules own s =
     ∷ 7 when noFunction s
     ∷ []
 
--- the order at the master
+-- "Order is by number, but for: the master, 1, 2, 3, 6, 7, 4, 5, 8"
 abbrev pub masterRules : ℕ → ℕ → ℕ → List ℕ → List Rule
 masterRules address function id s =
     1 when badAsked address function
@@ -88,15 +89,14 @@ abbrev pub frameOf : List ℕ → Frame
 frameOf s = record { address = addressOf s; function = functionOf s; id = idOf s; len = lenOf s }
 
 -- the answer where the refusal is n, 0 for none
-abbrev pub readAnswer : ℕ → List ℕ → FrameRead
-readAnswer zero s = Found (frameOf s)
-readAnswer (suc n) s = Refused (suc n)
+abbrev pub readAnswer : List ℕ → ℕ → FrameRead
+readAnswer s n = answered Refused (Found (frameOf s)) n
 
 unfoldable pub readAtMeter : ℕ → List ℕ → FrameRead
-readAtMeter own s = readAnswer (first (meterRules own s)) s
+readAtMeter own s = readAnswer s (first (meterRules own s))
 
 unfoldable pub readAtMaster : ℕ → ℕ → ℕ → List ℕ → FrameRead
-readAtMaster address function id s = readAnswer (first (masterRules address function id s)) s
+readAtMaster address function id s = readAnswer s (first (masterRules address function id s))
 
 -- the paper's number and values: address, function, ID, LEN
 abbrev pub toldFrameRead : FrameRead → Told

@@ -19,7 +19,7 @@ tooLong payload = ltb 245 (length payload)
 abbrev pub noRoom : List ℕ → List ℕ → Bool
 noRoom payload out = ltb (length out) (length payload + 10)
 
--- the order of writing: field faults first, then 17, then 16
+-- "writing, field faults first, then 17, then 16"
 abbrev pub roomRules : List ℕ → List ℕ → List Rule
 roomRules payload out = 17 when tooLong payload ∷ 16 when noRoom payload out ∷ []
 

@@ -25,7 +25,7 @@ pub fn len_of(bytes: &[u8]) -> usize
 pub fn id_of(bytes: &[u8]) -> u16
     ensures { λ r. ⌜ r ≡ idOf (now (bytes .entry)) ⌝ }
 {
-    wire::le16_at(bytes, wire::less(len_of(bytes), 4))
+    wire::le16_at(bytes, wire::minus(len_of(bytes), 4))
 }
 
 pub fn frame_of(bytes: &[u8]) -> Frame

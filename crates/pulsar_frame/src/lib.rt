@@ -5,7 +5,7 @@ mod write;
 
 ghost use mathlib.Core.Path.{_≡_};
 ghost use Rattle.pulsar_frame.specs.Layout.{payloadOf};
-ghost use Rattle.pulsar_frame.specs.Reading.{readAtMeter, readAtMaster};
+ghost use Rattle.pulsar_frame.specs.Reading.{readAnswer, readAtMeter, readAtMaster};
 ghost use Rattle.pulsar_frame.specs.Writing.{WritesRequest, WritesReply};
 
 pub struct Frame {
@@ -21,70 +21,35 @@ pub enum FrameRead {
     Refused(u8),
 }
 
+// The refusal, or where it is 0 the frame.
+fn answer(refusal: u8, bytes: &[u8]) -> FrameRead
+    ensures { λ r. ⌜ r ≡ readAnswer (now (bytes .entry)) refusal ⌝ }
+{
+    if refusal != 0 {
+        return FrameRead::Refused(refusal);
+    }
+    FrameRead::Frame(fields::frame_of(bytes))
+}
+
 // A request, at the meter with the address own.
 pub fn read_at_meter(own: u32, bytes: &[u8]) -> FrameRead
     ensures { λ r. ⌜ r ≡ readAtMeter own (now (bytes .entry)) ⌝ }
 {
-    if refuse::bad_own(own) {
-        return FrameRead::Refused(1);
-    }
-    if refuse::too_short(bytes) {
-        return FrameRead::Refused(2);
-    }
-    if refuse::not_bcd(bytes) {
-        return FrameRead::Refused(3);
-    }
-    if refuse::bad_length(bytes) {
-        return FrameRead::Refused(4);
-    }
-    if refuse::bad_crc(bytes) {
-        return FrameRead::Refused(5);
-    }
-    if refuse::not_mine(own, bytes) {
-        return FrameRead::Refused(6);
-    }
-    if refuse::no_function(bytes) {
-        return FrameRead::Refused(7);
-    }
-    FrameRead::Frame(fields::frame_of(bytes))
+    answer(refuse::meter_fault(own, bytes), bytes)
 }
 
 // A reply, at the master that asked address for function under id.
 pub fn read_at_master(address: u32, function: u8, id: u16, bytes: &[u8]) -> FrameRead
     ensures { λ r. ⌜ r ≡ readAtMaster address function id (now (bytes .entry)) ⌝ }
 {
-    if refuse::bad_asked(address, function) {
-        return FrameRead::Refused(1);
-    }
-    if refuse::too_short(bytes) {
-        return FrameRead::Refused(2);
-    }
-    if refuse::not_bcd(bytes) {
-        return FrameRead::Refused(3);
-    }
-    if refuse::not_asked(address, bytes) {
-        return FrameRead::Refused(6);
-    }
-    if refuse::other_function(function, bytes) {
-        return FrameRead::Refused(7);
-    }
-    if refuse::bad_length(bytes) {
-        return FrameRead::Refused(4);
-    }
-    if refuse::bad_crc(bytes) {
-        return FrameRead::Refused(5);
-    }
-    if refuse::other_id(id, bytes) {
-        return FrameRead::Refused(8);
-    }
-    FrameRead::Frame(fields::frame_of(bytes))
+    answer(refuse::master_fault(address, function, id, bytes), bytes)
 }
 
 // The payload of an accepted frame of len bytes, as a part of the bytes received.
 pub fn payload(bytes: &[u8], len: usize) -> &[u8]
     ensures { λ r. ⌜ now r ≡ payloadOf (now (bytes .entry)) len ⌝ }
 {
-    wire::front(wire::rest(bytes, 6), wire::less(len, 10))
+    wire::front(wire::rest(bytes, 6), wire::minus(len, 10))
 }
 
 // The master's request, over the front of out.

@@ -1,9 +1,9 @@
 -- The promise of the collector: silence hands over exactly the first 255 of the bytes since the last silence, whatever came before.
 -- Assumes nothing.
-use mathlib.Core.Path.{_≡_, refl, sym, ap, ap₂, _∙_, subst}
+use mathlib.Core.Path.{_≡_, refl, sym, ap, ap₂, _∙_}
 use mathlib.Core.Bool.{Bool, true, false}
 use mathlib.Core.List.{List, [], _∷_, _++_}
-use Prim.Native.Nat.{ℕ, zero, suc, _≤_, _<_}
+use Prim.Native.Nat.{ℕ, _≤_, _<_}
 use native.Mathlib.Nat.{min-le-left, zero-add}
 use native.Mathlib.Omega.{arith}
 use lib.Dec.{ltb}
@@ -11,11 +11,9 @@ use lib.ListN.{length, take, drop, set, length-append, length-take}
 use lib.Seq.{take-all, take-append-le, length-take-le, take-append-seam}
 use borrow.Author.Tests.{le-ltb, lt-ltb, ltb-true, ltb-false}
 use Rattle.wire.specs.Numbers.{over}
-use Rattle.wire.specs.Refusal.{first, FirstInOrder}
 use Rattle.wire.specs.Told.{accepted}
-use Rattle.wire.proofs.Refusal.{refusal-law}
 use Rattle.wire.proofs.Writing.{sets-over, sets-append}
-use Rattle.pulsar_line.specs.Collect.{fresh, zeros, unfit, collectorRules, pushAnswer, silenceAnswer, pushed, silenced, Event, byte, quiet, after, since, handing, toldPushed, toldHanded}
+use Rattle.pulsar_line.specs.Collect.{fresh, zeros, unfit, pushed, silenced, Event, byte, quiet, after, since, handing, toldPushed, toldHanded}
 use Rattle.pulsar_line.specs.declared.Collector.{Collector}
 use Rattle.pulsar_line.specs.declared.Pushed.{Pushed}
 use Rattle.pulsar_line.specs.declared.Handed.{Handed}
@@ -99,21 +97,3 @@ pub unfit-refused : (c : Collector) (b : ℕ) → 255 < c .count
 unfit-refused c b h =
     let e : true ≡ unfit (c .count) = sym (lt-ltb 255 (c .count) h) in
     (sym (push-unfit c true e b refl), sym (silence-unfit c true e refl))
-
-told-push : (n : ℕ) (c : Collector) (b : ℕ) → n ≡ toldPushed (pushAnswer n c b) .number
-told-push zero c b = refl
-told-push (suc n) c b = refl
-
-told-silence : (n : ℕ) (c : Collector) → n ≡ toldHanded (silenceAnswer n c) .number
-told-silence zero c = refl
-told-silence (suc n) c = refl
-
--- and only such a count does
-pub collector-first : (c : Collector) (b : ℕ)
-    → FirstInOrder (collectorRules c) (toldPushed (pushed c b) .number) × FirstInOrder (collectorRules c) (toldHanded (silenced c) .number)
-unfolding pushed silenced
-collector-first c b =
-    let law = refusal-law (collectorRules c) tt in (
-      subst (FirstInOrder (collectorRules c)) (told-push (first (collectorRules c)) c b) law,
-      subst (FirstInOrder (collectorRules c)) (told-silence (first (collectorRules c)) c) law,
-    )

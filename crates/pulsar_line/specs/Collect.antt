@@ -1,11 +1,11 @@
--- The line collector: it starts as a frame buffer of 255 zero bytes and count 0; each byte is added, bytes after the 255th are
--- dropped, and silence hands the collected bytes over and starts afresh.
+-- The line collector.
 -- Assumes nothing.
-use Prim.Native.Nat.{ℕ, zero, suc, _+_}
+use Prim.Native.Nat.{ℕ, _+_}
 use mathlib.Core.Bool.{Bool, true, false}
 use mathlib.Core.List.{List, [], _∷_, _++_}
 use lib.Dec.{ltb}
 use lib.ListN.{length, take, replicate, set}
+use Rattle.wire.specs.Answer.{answered}
 use Rattle.wire.specs.Numbers.{over}
 use Rattle.wire.specs.Refusal.{Rule, _when_, first}
 use Rattle.wire.specs.Told.{Told, accepted, refused}
@@ -15,38 +15,38 @@ use Rattle.pulsar_line.specs.declared.Handed.{Handed}
 use Rattle.pulsar_line.specs.declared.Answer.{Answer}
 use Rattle.pulsar_line.specs.declared.Answer.the-variants.{Done, Refused}
 
+-- "The line collector starts as a frame buffer of 255 zero bytes and count 0"
 abbrev pub zeros : List ℕ
 zeros = replicate 255 0
 
 abbrev pub fresh : Collector
 fresh = record { bytes = zeros; count = 0 }
 
--- 20 the collector's count above 255
+-- 20 state unfit: .. collector's count above 255
 abbrev pub unfit : ℕ → Bool
 unfit count = ltb 255 count
 
 abbrev pub collectorRules : Collector → List Rule
 collectorRules c = 20 when unfit (c .count) ∷ []
 
--- where there is room the byte is added, else it is dropped
+-- "each byte is added, bytes after the 255th are dropped"
 abbrev pub added : Bool → Collector → ℕ → Collector
 added true c b = record { bytes = set (c .bytes) (c .count) b; count = c .count + 1 }
 added false c b = c
 
--- the answers where the refusal is n, 0 for none
-abbrev pub pushAnswer : ℕ → Collector → ℕ → Pushed
-pushAnswer zero c b = record { answer = Done; state = added (ltb (c .count) 255) c b }
-pushAnswer (suc n) c b = record { answer = Refused (suc n); state = c }
-
-abbrev pub silenceAnswer : ℕ → Collector → Handed
-silenceAnswer zero c = record { answer = Done; bytes = c .bytes; count = c .count; state = fresh }
-silenceAnswer (suc n) c = record { answer = Refused (suc n); bytes = zeros; count = 0; state = c }
-
+-- a byte from the line; "Each returns its number and leaves every buffer and state untouched."
 unfoldable pub pushed : Collector → ℕ → Pushed
-pushed c b = pushAnswer (first (collectorRules c)) c b
+pushed c b =
+    answered (λ n. record { answer = Refused n; state = c })
+    (record { answer = Done; state = added (ltb (c .count) 255) c b })
+    (first (collectorRules c))
 
+-- "silence hands the collected bytes over and starts afresh"; where it is refused nothing is handed over
 unfoldable pub silenced : Collector → Handed
-silenced c = silenceAnswer (first (collectorRules c)) c
+silenced c =
+    answered (λ n. record { answer = Refused n; bytes = zeros; count = 0; state = c })
+    (record { answer = Done; bytes = c .bytes; count = c .count; state = fresh })
+    (first (collectorRules c))
 
 -- ---- the paper's number and values: of a silence, the collected bytes
 abbrev pub toldAnswer : Answer → List ℕ → Told

@@ -76,10 +76,11 @@ pub fn silence(c: Collector) -> Handed
         };
     }
     let bytes = c.bytes;
+    let afresh = new();
     Handed {
         answer: Answer::Done,
         bytes: bytes,
         count: count,
-        state: new(),
+        state: afresh,
     }
 }

@@ -1,14 +1,16 @@
--- The bodies of replies. 00: one error byte; 01: one value a channel, all of one width; 02: mask; 04: date, or no date; 05: status and
--- three zeros; 06: mask, first date, 0 or more values; 0A: 8 bytes; 0B: 2 zero bytes. Many-byte fields are least significant first.
+-- The bodies of replies. Many-byte fields are least significant first.
 -- Assumes nothing.
 use Prim.Native.Nat.{ℕ}
+use mathlib.Core.Bool.{cond}
 use mathlib.Core.List.{List, [], _∷_, _++_}
 use lib.Dec.{eqb}
 use lib.ListN.{drop, getD}
-use Rattle.wire.specs.Numbers.{le, ofLe, field}
+use Rattle.wire.specs.Numbers.{le, field}
 use Rattle.date.specs.Date.{dateBytes, dateOf, noDate, isNoDate}
 use Rattle.date.specs.declared.DateTime.{DateTime}
-use Rattle.pulsar_request.specs.Layout.{pick}
+use Rattle.pulsar_body.specs.Fields.{maskOf, dateIn}
+use Rattle.pulsar_body.specs.declared.Values.{Values}
+use Rattle.pulsar_body.specs.declared.Values.the-variants.{Nothing, Channels, Any, Eight}
 use Rattle.pulsar_reply.specs.declared.ArchiveReply.{ArchiveReply}
 use Rattle.pulsar_reply.specs.declared.Reply.{Reply}
 use Rattle.pulsar_reply.specs.declared.Reply.the-variants as P
@@ -19,14 +21,14 @@ use Rattle.pulsar_reply.specs.declared.Function.the-variants as F
 
 abbrev pub functionFrom : ℕ → Function
 functionFrom n =
-    pick (eqb n 0x00) F.Error
-    (pick (eqb n 0x01) F.Channels
-    (pick (eqb n 0x02) F.ChannelsWritten
-    (pick (eqb n 0x04) F.Clock
-    (pick (eqb n 0x05) F.ClockSet
-    (pick (eqb n 0x06) F.Archive
-    (pick (eqb n 0x0A) F.Parameter
-    (pick (eqb n 0x0B) F.ParameterWritten F.Unknown)))))))
+    cond (eqb n 0x00) F.Error
+    (cond (eqb n 0x01) F.Channels
+    (cond (eqb n 0x02) F.ChannelsWritten
+    (cond (eqb n 0x04) F.Clock
+    (cond (eqb n 0x05) F.ClockSet
+    (cond (eqb n 0x06) F.Archive
+    (cond (eqb n 0x0A) F.Parameter
+    (cond (eqb n 0x0B) F.ParameterWritten F.Unknown)))))))
 
 abbrev pub functionOf : Reply → Function
 functionOf (P.Error n) = F.Error
@@ -53,6 +55,8 @@ functionNumber F.Unknown = 0xFF
 
 -- ---- the bytes of a reply: its head, and the value bytes (rising channels in an 01 reply)
 
+-- "reply: one value a channel, all of one width. .. reply: mask. .. reply: date. .. reply: status .. and three zeros. .. reply: mask, first
+-- date, 0 or more values. .. reply: 8 bytes. .. reply: 2 zero bytes. Reply 00: one error byte, any number kept."
 abbrev pub archiveBytes : ArchiveReply → List ℕ
 archiveBytes a = le 4 (a .mask) ++ dateBytes (a .first)
 
@@ -82,16 +86,22 @@ headLength F.Parameter = 0
 headLength F.ParameterWritten = 2
 headLength F.Unknown = 0
 
+-- the value bytes that follow it: "one value a channel", "0 or more values", "reply: 8 bytes"
+abbrev pub valuesAfter : Function → Values
+valuesAfter F.Error = Nothing
+valuesAfter F.Channels = Channels
+valuesAfter F.ChannelsWritten = Nothing
+valuesAfter F.Clock = Nothing
+valuesAfter F.ClockSet = Nothing
+valuesAfter F.Archive = Any
+valuesAfter F.Parameter = Eight
+valuesAfter F.ParameterWritten = Nothing
+valuesAfter F.Unknown = Nothing
+
 -- ---- the fields of given bytes
 
 abbrev pub errorOf : List ℕ → ℕ
 errorOf s = getD s 0 0
-
-abbrev pub maskOf : List ℕ → ℕ
-maskOf s = ofLe (field s 0 4)
-
-abbrev pub dateIn : List ℕ → DateTime
-dateIn s = dateOf (field s 0 6)
 
 abbrev pub statusOf : List ℕ → ℕ
 statusOf s = getD s 0 0
@@ -102,9 +112,9 @@ firstOf s = dateOf (field s 4 6)
 abbrev pub archiveOf : List ℕ → ArchiveReply
 archiveOf s = record { mask = maskOf s; first = firstOf s }
 
--- six bytes FF mean no date
+-- "Six bytes FF mean no date"
 abbrev pub clockOf : DateTime → Reply
-clockOf d = pick (isNoDate d) P.NoClock (P.Clock d)
+clockOf d = cond (isNoDate d) P.NoClock (P.Clock d)
 
 -- the reply that a body says (what is unknown has been refused before)
 abbrev pub replyOf : Function → List ℕ → Reply

@@ -1,18 +1,17 @@
 -- Reading a reply's body: 1, 10, 11, and then its fields in their order. The asked mask matters to the 01 reply alone.
 -- Assumes nothing.
-use Prim.Native.Nat.{ℕ, zero, suc}
-use mathlib.Core.Bool.{Bool, true, false, _||_}
-use mathlib.Core.List.{List, [], _∷_}
-use lib.Dec.{ltb}
-use lib.ListN.{length, drop}
+use Prim.Native.Nat.{ℕ}
+use mathlib.Core.Bool.{Bool, true, false}
+use mathlib.Core.List.{List, [], _∷_, _++_}
 use Rattle.wire.specs.Refusal.{Rule, _when_, first}
+use Rattle.wire.specs.Answer.{answered}
 use Rattle.wire.specs.Told.{Told, accepted, refused}
 use Rattle.date.specs.Date.{dateBytes}
 use Rattle.date.specs.declared.DateTime.{DateTime}
-use Rattle.reading.specs.Values.{badWidth}
-use Rattle.pulsar_request.specs.Fields.{maskFaults}
-use Rattle.pulsar_reply.specs.Layout.{functionFrom, functionOf, functionNumber, headLength, maskOf, dateIn, statusOf, firstOf, replyOf}
-use Rattle.pulsar_reply.specs.Fields.{badValues, notClock, badStatus, notThreeZeros, notTwoZeros, archiveFaults}
+use Rattle.pulsar_body.specs.Fields.{maskOf, dateIn, maskFaults}
+use Rattle.pulsar_body.specs.Body.{bodyRules}
+use Rattle.pulsar_reply.specs.Layout.{functionFrom, functionOf, functionNumber, headLength, valuesAfter, statusOf, firstOf, replyOf}
+use Rattle.pulsar_reply.specs.Fields.{notClock, badStatus, notThreeZeros, notTwoZeros, archiveFaults}
 use Rattle.pulsar_reply.specs.declared.Reply.{Reply}
 use Rattle.pulsar_reply.specs.declared.Reply.the-variants as P
 use Rattle.pulsar_reply.specs.declared.ReplyRead.{ReplyRead}
@@ -31,11 +30,6 @@ isUnknown F.Archive = false
 isUnknown F.Parameter = false
 isUnknown F.ParameterWritten = false
 isUnknown F.Unknown = true
-
--- 11 body length wrong or, when reading, above 245
-abbrev pub badLength : Function → ℕ → ℕ → List ℕ → Bool
-badLength function width mask s =
-    ltb 245 (length s) || ltb (length s) (headLength function) || badValues function width mask (drop (headLength function) s)
 
 -- the rules of a body whose judged field is the clock, and of the status with its zeros, and of two zeros
 abbrev pub clockRules : DateTime → List Rule
@@ -59,21 +53,16 @@ fieldRules F.Parameter mask s = []
 fieldRules F.ParameterWritten mask s = zerosRules s
 fieldRules F.Unknown mask s = []
 
+-- what is judged of every body, and then the fields: "Where several fields of one body are at fault, the earlier field is judged first,
+-- after 11."
 abbrev pub replyRules : Function → ℕ → ℕ → List ℕ → List Rule
 replyRules function width mask s =
-    1 when badWidth width
-    ∷ 10 when isUnknown function
-    ∷ 11 when badLength function width mask s
-    ∷ fieldRules function mask s
-
--- the answer where the refusal is n (0 for none)
-abbrev pub replyAnswer : ℕ → Function → List ℕ → ReplyRead
-replyAnswer zero function s = R.Reply (replyOf function s)
-replyAnswer (suc n) function s = R.Refused (suc n)
+    bodyRules (isUnknown function) (headLength function) (valuesAfter function) width mask s
+    ++ fieldRules function mask s
 
 unfoldable pub readReply : ℕ → ℕ → ℕ → List ℕ → ReplyRead
 readReply number width mask s =
-    replyAnswer (first (replyRules (functionFrom number) width mask s)) (functionFrom number) s
+    answered R.Refused (R.Reply (replyOf (functionFrom number) s)) (first (replyRules (functionFrom number) width mask s))
 
 -- a reply by the paper's numbers: its function, and its fields (no date has none)
 abbrev pub fieldNumbers : Reply → List ℕ

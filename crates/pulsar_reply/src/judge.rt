@@ -2,17 +2,12 @@
 use crate::Function;
 use crate::Reply;
 use date::DateTime;
-use pulsar_request::fields;
+use pulsar_body::Values;
 ghost use mathlib.Core.Path.{_≡_};
-ghost use mathlib.Core.Bool.{false};
-ghost use Prim.Native.Nat.{_*_};
-ghost use lib.ListN.{length};
 ghost use Rattle.wire.specs.Refusal.{first};
-ghost use Rattle.reading.specs.Mask.{channelCount};
-ghost use Rattle.reading.specs.Values.{uneven, badWidth};
-ghost use Rattle.pulsar_reply.specs.Layout.{headLength};
-ghost use Rattle.pulsar_reply.specs.Fields.{otherThan, badValues, notClock, badStatus, notZero, notThreeZeros, notTwoZeros, archiveFaults};
-ghost use Rattle.pulsar_reply.specs.Reading.{isUnknown, badLength, clockRules, statusRules, zerosRules, fieldRules, replyRules};
+ghost use Rattle.pulsar_reply.specs.Layout.{headLength, valuesAfter};
+ghost use Rattle.pulsar_reply.specs.Fields.{notClock, badStatus, notZero, notThreeZeros, notTwoZeros, archiveFaults};
+ghost use Rattle.pulsar_reply.specs.Reading.{isUnknown, clockRules, statusRules, zerosRules, fieldRules, replyRules};
 ghost use Rattle.pulsar_reply.specs.Writing.{statusFaults, fieldFaults, writingRules};
 
 fn is_unknown(function: Function) -> bool
@@ -47,51 +42,20 @@ pub fn head_length(function: Function) -> usize
     }
 }
 
-fn other_than(n: usize, values: &[u8]) -> bool
-    ensures { λ r. ⌜ r ≡ otherThan n (now (values .entry)) ⌝ }
-{
-    values.len() != n
-}
-
-// At most 32 channels of 8 bytes.
-fn channel_bytes(mask: u32, width: usize) -> usize
-    requires { ⌜ badWidth width ≡ false ⌝ }
-    ensures { λ r. ⌜ r ≡ channelCount mask * width ⌝ }
-{
-    reading::mask::channel_count(mask) * width
-}
-
-fn is_uneven(width: usize, values: &[u8]) -> bool
-    requires { ⌜ badWidth width ≡ false ⌝ }
-    ensures { λ r. ⌜ r ≡ uneven width (now (values .entry)) ⌝ }
-{
-    values.len() % width != 0
-}
-
-fn bad_values(function: Function, width: usize, mask: u32, values: &[u8]) -> bool
-    requires { ⌜ badWidth width ≡ false ⌝ }
-    ensures { λ r. ⌜ r ≡ badValues function width mask (now (values .entry)) ⌝ }
+fn values_after(function: Function) -> Values
+    ensures { λ r. ⌜ r ≡ valuesAfter function ⌝ }
 {
     match function {
-        Function::Error => other_than(0, values),
-        Function::Channels => other_than(channel_bytes(mask, width), values),
-        Function::ChannelsWritten => other_than(0, values),
-        Function::Clock => other_than(0, values),
-        Function::ClockSet => other_than(0, values),
-        Function::Archive => is_uneven(width, values),
-        Function::Parameter => other_than(8, values),
-        Function::ParameterWritten => other_than(0, values),
-        Function::Unknown => other_than(0, values),
+        Function::Error => Values::Nothing,
+        Function::Channels => Values::Channels,
+        Function::ChannelsWritten => Values::Nothing,
+        Function::Clock => Values::Nothing,
+        Function::ClockSet => Values::Nothing,
+        Function::Archive => Values::Any,
+        Function::Parameter => Values::Eight,
+        Function::ParameterWritten => Values::Nothing,
+        Function::Unknown => Values::Nothing,
     }
-}
-
-fn bad_length(function: Function, width: usize, mask: u32, body: &[u8]) -> bool
-    requires { ⌜ badWidth width ≡ false ⌝ }
-    ensures { λ r. ⌜ r ≡ badLength function width mask (now (body .entry)) ⌝ }
-{
-    let head = head_length(function);
-    let bad = bad_values(function, width, mask, wire::rest(body, head));
-    (245 < body.len()) | (body.len() < head) | bad
 }
 
 fn not_clock(d: DateTime) -> bool
@@ -145,7 +109,7 @@ fn status_fields(body: &[u8]) -> u8
     0
 }
 
-fn zeros(body: &[u8]) -> u8
+fn zeros_fault(body: &[u8]) -> u8
     ensures { λ r. ⌜ r ≡ first (zerosRules (now (body .entry))) ⌝ }
 {
     if not_two_zeros(body) {
@@ -157,10 +121,10 @@ fn zeros(body: &[u8]) -> u8
 fn archive_faults(mask: u32, from: DateTime) -> u8
     ensures { λ r. ⌜ r ≡ first (archiveFaults mask from) ⌝ }
 {
-    if fields::not_one(mask) {
+    if pulsar_body::not_one(mask) {
         return 12;
     }
-    if fields::not_date(from) {
+    if pulsar_body::not_date(from) {
         return 13;
     }
     0
@@ -171,29 +135,27 @@ fn body_fields(function: Function, mask: u32, body: &[u8]) -> u8
 {
     match function {
         Function::Error => 0,
-        Function::Channels => fields::mask_fault(mask),
+        Function::Channels => pulsar_body::mask_fault(mask),
         Function::ChannelsWritten => 0,
         Function::Clock => clock_fault(date::date_at(body, 0)),
         Function::ClockSet => status_fields(body),
         Function::Archive => archive_faults(wire::le32_at(body, 0), date::date_at(body, 4)),
         Function::Parameter => 0,
-        Function::ParameterWritten => zeros(body),
+        Function::ParameterWritten => zeros_fault(body),
         Function::Unknown => 0,
     }
 }
 
 // The number of the first rule that holds, 0 where none does.
-pub fn reading(function: Function, width: usize, mask: u32, body: &[u8]) -> u8
+pub fn read_fault(function: Function, width: usize, mask: u32, body: &[u8]) -> u8
     ensures { λ r. ⌜ r ≡ first (replyRules function width mask (now (body .entry))) ⌝ }
 {
-    if reading::values::bad_width(width) {
-        return 1;
-    }
-    if is_unknown(function) {
-        return 10;
-    }
-    if bad_length(function, width, mask, body) {
-        return 11;
+    let unknown = is_unknown(function);
+    let head = head_length(function);
+    let due = values_after(function);
+    let fault = pulsar_body::body_fault(unknown, head, due, width, mask, body);
+    if fault != 0 {
+        return fault;
     }
     body_fields(function, mask, body)
 }
@@ -212,9 +174,9 @@ fn reply_faults(reply: Reply, mask: u32) -> u8
 {
     match reply {
         Reply::Error(_) => 0,
-        Reply::Channels => fields::mask_fault(mask),
+        Reply::Channels => pulsar_body::mask_fault(mask),
         Reply::ChannelsWritten(_) => 0,
-        Reply::Clock(d) => fields::date_fault(d),
+        Reply::Clock(d) => pulsar_body::date_fault(d),
         Reply::NoClock => 0,
         Reply::ClockSet(status) => status_fault(status),
         Reply::Archive(a) => {
@@ -226,19 +188,17 @@ fn reply_faults(reply: Reply, mask: u32) -> u8
     }
 }
 
-pub fn writing(reply: Reply, width: usize, mask: u32, values: &[u8], out: usize) -> u8
+pub fn write_fault(reply: Reply, width: usize, mask: u32, values: &[u8], out: usize) -> u8
     ensures { λ r. ⌜ r ≡ first (writingRules reply width mask (now (values .entry)) out) ⌝ }
 {
-    if reading::values::bad_width(width) {
-        return 1;
-    }
     let function = crate::function_of(reply);
-    if bad_values(function, width, mask, values) {
-        return 11;
+    let early = pulsar_body::values_fault(values_after(function), width, mask, values);
+    if early != 0 {
+        return early;
     }
     let fault = reply_faults(reply, mask);
     if fault != 0 {
         return fault;
     }
-    fields::room(head_length(function) + values.len(), out)
+    pulsar_body::room_fault(head_length(function) + values.len(), out)
 }

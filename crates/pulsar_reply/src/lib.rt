@@ -9,7 +9,7 @@ ghost use lib.Seq.{sets};
 ghost use lib.ListN.{length};
 ghost use Rattle.wire.specs.Writes.{Writes};
 ghost use Rattle.wire.specs.Refusal.{first};
-ghost use Rattle.pulsar_reply.specs.Layout.{functionFrom, functionOf, clockOf, archiveOf, replyOf, archiveBytes, headBytes, replyBytes, valuesOf};
+ghost use Rattle.pulsar_reply.specs.Layout.{functionFrom, functionOf, functionNumber, clockOf, archiveOf, replyOf, archiveBytes, headBytes, replyBytes, valuesOf};
 ghost use Rattle.pulsar_reply.specs.Reading.{readReply};
 ghost use Rattle.pulsar_reply.specs.Writing.{writingRules};
 
@@ -114,7 +114,7 @@ pub fn read_reply(function: u8, width: usize, mask: u32, body: &[u8]) -> ReplyRe
     ensures { λ r. ⌜ r ≡ readReply function width mask (now (body .entry)) ⌝ }
 {
     let received = function_from(function);
-    let refusal = judge::reading(received, width, mask, body);
+    let refusal = judge::read_fault(received, width, mask, body);
     if refusal != 0 {
         return ReplyRead::Refused(refusal);
     }
@@ -134,6 +134,23 @@ fn function_of(reply: Reply) -> Function
         Reply::Archive(_) => Function::Archive,
         Reply::Parameter => Function::Parameter,
         Reply::ParameterWritten => Function::ParameterWritten,
+    }
+}
+
+// The function of a reply, as its frame bears it.
+pub fn reply_function(reply: Reply) -> u8
+    ensures { λ r. ⌜ r ≡ functionNumber (functionOf reply) ⌝ }
+{
+    match reply {
+        Reply::Error(_) => 0x00,
+        Reply::Channels => 0x01,
+        Reply::ChannelsWritten(_) => 0x02,
+        Reply::Clock(_) => 0x04,
+        Reply::NoClock => 0x04,
+        Reply::ClockSet(_) => 0x05,
+        Reply::Archive(_) => 0x06,
+        Reply::Parameter => 0x0A,
+        Reply::ParameterWritten => 0x0B,
     }
 }
 
@@ -179,7 +196,7 @@ pub fn write_reply_body(
 ) -> Written
     ensures { λ r. ⌜ Writes (first (writingRules reply width mask (now (values .entry)) (length (now (out .entry))))) (replyBytes reply (now (values .entry))) (now (out .entry)) r (now (out .exit)) ⌝ }
 {
-    let refusal = judge::writing(reply, width, mask, values, out.len());
+    let refusal = judge::write_fault(reply, width, mask, values, out.len());
     if refusal != 0 {
         return Written::Refused(refusal);
     }

@@ -2,22 +2,20 @@
 -- Assumes nothing.
 use mathlib.Core.Path.{_≡_, sym, ap, _∙_}
 use mathlib.Core.List.{List, _++_, append-assoc}
-use Prim.Native.Nat.{ℕ, _+_, _≤_}
-use native.Mathlib.Omega.{arith}
+use Prim.Native.Nat.{ℕ, _≤_}
 use lib.ListN.{length, length-append}
 use lib.Seq.{sets}
-use borrow.Author.Tests.{ltb-false}
-use Rattle.wire.specs.Numbers.{le, over}
+use Rattle.wire.specs.Numbers.{le}
 use Rattle.wire.specs.Refusal.{first}
-use Rattle.wire.proofs.Refusal.{none-first, numbered-append, none-append}
 use Rattle.wire.proofs.Numbers.{length-le}
-use Rattle.wire.proofs.Writing.{sets-then, sets-over}
+use Rattle.wire.proofs.Writing.{sets-then}
 use Rattle.date.specs.Date.{dateBytes}
-use Rattle.pulsar_request.specs.Layout.{typeNumber, archiveBytes, headBytes, headLength, functionOf, requestBytes}
-use Rattle.pulsar_request.specs.Writing.{fieldFaults, roomRules, writingRules}
+use Rattle.pulsar_body.proofs.RoundTrip.{writing-fits}
+use Rattle.pulsar_request.specs.Layout.{typeNumber, archiveBytes, headBytes, functionOf, valuesAfter, valuesMask, requestBytes}
+use Rattle.pulsar_request.specs.Writing.{fieldFaults, writingRules}
 use Rattle.pulsar_request.specs.declared.ArchiveRequest.{ArchiveRequest}
 use Rattle.pulsar_request.specs.declared.Request.{Request}
-use Rattle.pulsar_request.proofs.Cases.{length-head, numbered-faults}
+use Rattle.pulsar_request.proofs.Cases.{numbered-faults}
 
 pub archive-stored : (out o₁ o₂ o₃ o₄ : List ℕ) (a : ArchiveRequest) (t : ℕ)
     → o₁ ≡ sets out 0 (le 4 (a .mask)) → t ≡ typeNumber (a .kind) → o₂ ≡ sets o₁ 4 (le 2 t)
@@ -39,15 +37,6 @@ archive-stored out o₁ o₂ o₃ o₄ a t e₁ et e₂ e₃ e₄ =
 pub as-head : (q p : Request) (out out′ : List ℕ) → q ≡ p → out′ ≡ sets out 0 (headBytes p) → out′ ≡ sets out 0 (headBytes q)
 as-head q p out out′ e eo = eo ∙ sym (ap (λ (x : Request). sets out 0 (headBytes x)) e)
 
--- the head, and the values after it
-pub request-stored : (q : Request) (vs out o₁ o₂ : List ℕ) (head : ℕ) → head ≡ headLength (functionOf q)
-    → o₁ ≡ sets out 0 (headBytes q) → o₂ ≡ sets o₁ head vs → length (requestBytes q vs) ≤ length out → o₂ ≡ over out (requestBytes q vs)
-request-stored q vs out o₁ o₂ head eh e₁ e₂ fits =
-    e₂ ∙ ap (λ (o : List ℕ). sets o head vs) e₁ ∙ sets-then out (headBytes q) vs head (length-head q ∙ sym eh) ∙ sets-over out (requestBytes q vs) fits
-
 -- what is not refused has room
-pub writing-fits : (q : Request) (width : ℕ) (vs : List ℕ) (room r : ℕ) → r ≡ first (writingRules q width vs room) → r ≡ 0 → length (requestBytes q vs) ≤ room
-writing-fits q width vs room r e z =
-    let rooms = roomRules (length (requestBytes q vs)) room in
-    let none = none-first (writingRules q width vs room) (numbered-append (fieldFaults q) rooms (numbered-faults q) tt) (sym e ∙ z) in
-    ltb-false room (length (requestBytes q vs)) (none-append (fieldFaults q) rooms (none .1 .1) .1 .1 .0)
+pub request-fits : (q : Request) (width : ℕ) (vs : List ℕ) (room r : ℕ) → r ≡ first (writingRules q width vs room) → r ≡ 0 → length (requestBytes q vs) ≤ room
+request-fits q width vs room r = writing-fits (valuesAfter (functionOf q)) width (valuesMask q) vs (fieldFaults q) (length (requestBytes q vs)) room r (numbered-faults q)

@@ -1,15 +1,16 @@
--- The bodies of requests. 01: mask; 02: mask and values; 04: empty; 05: date; 06: mask, type (2 bytes), first and last date;
--- 0A: index (2); 0B: index, 8 bytes. Many-byte fields are least significant first.
+-- The bodies of requests. Many-byte fields are least significant first.
 -- Assumes nothing.
-use Prim.Native.Nat.{ℕ, _*_}
-use mathlib.Core.Bool.{Bool, true, false}
-use mathlib.Core.List.{List, [], _∷_, _++_}
+use Prim.Native.Nat.{ℕ}
+use mathlib.Core.Bool.{cond}
+use mathlib.Core.List.{List, [], _++_}
 use lib.Dec.{eqb}
-use lib.ListN.{length, drop}
+use lib.ListN.{drop}
 use Rattle.wire.specs.Numbers.{le, ofLe, field}
 use Rattle.date.specs.Date.{dateBytes, dateOf}
 use Rattle.date.specs.declared.DateTime.{DateTime}
-use Rattle.reading.specs.Mask.{channelCount}
+use Rattle.pulsar_body.specs.Fields.{maskOf, dateIn}
+use Rattle.pulsar_body.specs.declared.Values.{Values}
+use Rattle.pulsar_body.specs.declared.Values.the-variants.{Nothing, Channels, Eight}
 use Rattle.pulsar_request.specs.declared.ArchiveKind.{ArchiveKind}
 use Rattle.pulsar_request.specs.declared.ArchiveKind.the-variants as A
 use Rattle.pulsar_request.specs.declared.ArchiveRequest.{ArchiveRequest}
@@ -20,19 +21,15 @@ use Rattle.pulsar_request.specs.declared.Function.the-variants as F
 
 -- ---- the functions
 
-abbrev pub pick : {A : Type 0} → Bool → A → A → A
-pick true a b = a
-pick false a b = b
-
 abbrev pub functionFrom : ℕ → Function
 functionFrom n =
-    pick (eqb n 0x01) F.ReadChannels
-    (pick (eqb n 0x02) F.WriteChannels
-    (pick (eqb n 0x04) F.ReadClock
-    (pick (eqb n 0x05) F.SetClock
-    (pick (eqb n 0x06) F.ReadArchive
-    (pick (eqb n 0x0A) F.ReadParameter
-    (pick (eqb n 0x0B) F.WriteParameter F.Unknown))))))
+    cond (eqb n 0x01) F.ReadChannels
+    (cond (eqb n 0x02) F.WriteChannels
+    (cond (eqb n 0x04) F.ReadClock
+    (cond (eqb n 0x05) F.SetClock
+    (cond (eqb n 0x06) F.ReadArchive
+    (cond (eqb n 0x0A) F.ReadParameter
+    (cond (eqb n 0x0B) F.WriteParameter F.Unknown))))))
 
 abbrev pub functionOf : Request → Function
 functionOf (Q.ReadChannels mask) = F.ReadChannels
@@ -53,7 +50,7 @@ functionNumber F.ReadParameter = 0x0A
 functionNumber F.WriteParameter = 0x0B
 functionNumber F.Unknown = 0
 
--- 1 hourly, 2 daily, 3 monthly, 4 half-hourly
+-- "an archive request holds its archive kind (1 hourly, 2 daily, 3 monthly, 4 half-hourly)"
 abbrev pub typeNumber : ArchiveKind → ℕ
 typeNumber A.Hourly = 1
 typeNumber A.Daily = 2
@@ -61,10 +58,12 @@ typeNumber A.Monthly = 3
 typeNumber A.HalfHourly = 4
 
 abbrev pub typeFrom : ℕ → ArchiveKind
-typeFrom n = pick (eqb n 1) A.Hourly (pick (eqb n 2) A.Daily (pick (eqb n 3) A.Monthly A.HalfHourly))
+typeFrom n = cond (eqb n 1) A.Hourly (cond (eqb n 2) A.Daily (cond (eqb n 3) A.Monthly A.HalfHourly))
 
 -- ---- the bytes of a request: its head, and the value bytes
 
+-- "01 request: mask; .. 02 request: mask and values; .. 04 request: empty; .. 05 request: date; .. 06 request: mask .. type (2 bytes),
+-- first and last date; .. 0A request: index (2); .. 0B request: index, 8 bytes"
 abbrev pub archiveBytes : ArchiveRequest → List ℕ
 archiveBytes a = le 4 (a .mask) ++ (le 2 (typeNumber (a .kind)) ++ (dateBytes (a .first) ++ dateBytes (a .last)))
 
@@ -80,7 +79,7 @@ headBytes (Q.WriteParameter index) = le 2 index
 abbrev pub requestBytes : Request → List ℕ → List ℕ
 requestBytes request values = headBytes request ++ values
 
--- how many bytes the head has, and how many value bytes follow it
+-- how many bytes the head has
 abbrev pub headLength : Function → ℕ
 headLength F.ReadChannels = 4
 headLength F.WriteChannels = 4
@@ -91,23 +90,28 @@ headLength F.ReadParameter = 2
 headLength F.WriteParameter = 2
 headLength F.Unknown = 0
 
-abbrev pub valuesLength : Function → ℕ → ℕ → ℕ
-valuesLength F.ReadChannels width mask = 0
-valuesLength F.WriteChannels width mask = channelCount mask * width
-valuesLength F.ReadClock width mask = 0
-valuesLength F.SetClock width mask = 0
-valuesLength F.ReadArchive width mask = 0
-valuesLength F.ReadParameter width mask = 0
-valuesLength F.WriteParameter width mask = 8
-valuesLength F.Unknown width mask = 0
+-- the value bytes that follow it: "mask and values", "index, 8 bytes"
+abbrev pub valuesAfter : Function → Values
+valuesAfter F.ReadChannels = Nothing
+valuesAfter F.WriteChannels = Channels
+valuesAfter F.ReadClock = Nothing
+valuesAfter F.SetClock = Nothing
+valuesAfter F.ReadArchive = Nothing
+valuesAfter F.ReadParameter = Nothing
+valuesAfter F.WriteParameter = Eight
+valuesAfter F.Unknown = Nothing
+
+-- the mask of the values, 0 where there are none
+abbrev pub valuesMask : Request → ℕ
+valuesMask (Q.ReadChannels mask) = 0
+valuesMask (Q.WriteChannels mask) = mask
+valuesMask Q.ReadClock = 0
+valuesMask (Q.SetClock d) = 0
+valuesMask (Q.ReadArchive a) = 0
+valuesMask (Q.ReadParameter index) = 0
+valuesMask (Q.WriteParameter index) = 0
 
 -- ---- the fields of given bytes
-
-abbrev pub maskOf : List ℕ → ℕ
-maskOf s = ofLe (field s 0 4)
-
-abbrev pub dateIn : List ℕ → DateTime
-dateIn s = dateOf (field s 0 6)
 
 abbrev pub typeOf : List ℕ → ℕ
 typeOf s = ofLe (field s 4 2)
@@ -124,7 +128,7 @@ indexOf s = ofLe (field s 0 2)
 abbrev pub archiveOf : List ℕ → ArchiveRequest
 archiveOf s = record { mask = maskOf s; kind = typeFrom (typeOf s); first = firstOf s; last = lastOf s }
 
--- the request that a body says (what is unknown has been refused before)
+-- "A decoded request is one of seven kinds": the request that a body says (what is unknown has been refused before)
 abbrev pub requestOf : Function → List ℕ → Request
 requestOf F.ReadChannels s = Q.ReadChannels (maskOf s)
 requestOf F.WriteChannels s = Q.WriteChannels (maskOf s)

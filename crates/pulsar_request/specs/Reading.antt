@@ -1,17 +1,17 @@
 -- Reading a request's body: 1, 10, 11, and then its fields in their order.
 -- Assumes nothing.
-use Prim.Native.Nat.{ℕ, zero, suc, _+_}
-use mathlib.Core.Bool.{Bool, true, false, not, _||_}
+use Prim.Native.Nat.{ℕ}
+use mathlib.Core.Bool.{Bool, true, false, _||_}
 use mathlib.Core.List.{List, [], _∷_, _++_}
 use lib.Dec.{eqb, ltb}
-use lib.ListN.{length}
 use Rattle.wire.specs.Refusal.{Rule, _when_, first}
+use Rattle.wire.specs.Answer.{answered}
 use Rattle.wire.specs.Told.{Told, accepted, refused}
 use Rattle.date.specs.Date.{dateBytes}
 use Rattle.date.specs.declared.DateTime.{DateTime}
-use Rattle.reading.specs.Values.{badWidth}
-use Rattle.pulsar_request.specs.Layout.{functionFrom, functionOf, functionNumber, typeNumber, headLength, valuesLength, maskOf, dateIn, typeOf, firstOf, lastOf, requestOf}
-use Rattle.pulsar_request.specs.Fields.{maskFaults, dateFaults, notOne, notDate, badType}
+use Rattle.pulsar_body.specs.Fields.{maskOf, dateIn, maskFaults, dateFaults, notOne, notDate}
+use Rattle.pulsar_body.specs.Body.{bodyRules}
+use Rattle.pulsar_request.specs.Layout.{functionFrom, functionOf, functionNumber, typeNumber, headLength, valuesAfter, typeOf, firstOf, lastOf, requestOf}
 use Rattle.pulsar_request.specs.declared.Request.{Request}
 use Rattle.pulsar_request.specs.declared.Request.the-variants as Q
 use Rattle.pulsar_request.specs.declared.RequestRead.{RequestRead}
@@ -30,9 +30,9 @@ isUnknown F.ReadParameter = false
 isUnknown F.WriteParameter = false
 isUnknown F.Unknown = true
 
--- 11 body length wrong or, when reading, above 245
-abbrev pub badLength : Function → ℕ → List ℕ → Bool
-badLength function width s = ltb 245 (length s) || not (eqb (length s) (headLength function + valuesLength function width (maskOf s)))
+-- 14 archive type not 1..4
+abbrev pub badType : ℕ → Bool
+badType type = eqb type 0 || ltb 4 type
 
 -- the fields, the earlier judged first
 abbrev pub archiveRules : ℕ → ℕ → DateTime → DateTime → List Rule
@@ -53,21 +53,16 @@ fieldRules F.ReadParameter s = []
 fieldRules F.WriteParameter s = []
 fieldRules F.Unknown s = []
 
+-- what is judged of every body, and then the fields: "Where several fields of one body are at fault, the earlier field is judged first,
+-- after 11."
 abbrev pub requestRules : Function → ℕ → List ℕ → List Rule
 requestRules function width s =
-    1 when badWidth width
-    ∷ 10 when isUnknown function
-    ∷ 11 when badLength function width s
-    ∷ fieldRules function s
-
--- the answer where the refusal is n (0 for none)
-abbrev pub requestAnswer : ℕ → Function → List ℕ → RequestRead
-requestAnswer zero function s = R.Request (requestOf function s)
-requestAnswer (suc n) function s = R.Refused (suc n)
+    bodyRules (isUnknown function) (headLength function) (valuesAfter function) width (maskOf s) s
+    ++ fieldRules function s
 
 unfoldable pub readRequest : ℕ → ℕ → List ℕ → RequestRead
 readRequest number width s =
-    requestAnswer (first (requestRules (functionFrom number) width s)) (functionFrom number) s
+    answered R.Refused (R.Request (requestOf (functionFrom number) s)) (first (requestRules (functionFrom number) width s))
 
 -- a request by the paper's numbers: its function, and its fields
 abbrev pub fieldNumbers : Request → List ℕ

@@ -1,31 +1,15 @@
--- Writing a request's body: field faults first, then 17, then 16.
+-- Writing a request's body: 1, 11 and the faults of its fields first, then 17, then 16.
 -- Assumes nothing.
 use Prim.Native.Nat.{ℕ}
-use mathlib.Core.Bool.{Bool, not}
 use mathlib.Core.List.{List, [], _∷_, _++_}
-use lib.Dec.{eqb, ltb}
 use lib.ListN.{length}
 use Rattle.wire.specs.Refusal.{Rule, _when_}
-use Rattle.reading.specs.Values.{badWidth}
-use Rattle.pulsar_request.specs.Layout.{functionOf, valuesLength, requestBytes}
-use Rattle.pulsar_request.specs.Fields.{maskFaults, dateFaults, notOne, notDate}
 use Rattle.date.specs.declared.DateTime.{DateTime}
+use Rattle.pulsar_body.specs.Fields.{maskFaults, dateFaults, notOne, notDate}
+use Rattle.pulsar_body.specs.Body.{valuesRules, roomRules}
+use Rattle.pulsar_request.specs.Layout.{functionOf, valuesAfter, valuesMask, requestBytes}
 use Rattle.pulsar_request.specs.declared.Request.{Request}
 use Rattle.pulsar_request.specs.declared.Request.the-variants as Q
-
--- the mask that says how many values there are
-abbrev pub maskIn : Request → ℕ
-maskIn (Q.ReadChannels mask) = mask
-maskIn (Q.WriteChannels mask) = mask
-maskIn Q.ReadClock = 0
-maskIn (Q.SetClock d) = 0
-maskIn (Q.ReadArchive a) = a .mask
-maskIn (Q.ReadParameter index) = 0
-maskIn (Q.WriteParameter index) = 0
-
--- 11 value bytes that do not match mask and width
-abbrev pub badValues : Request → ℕ → List ℕ → Bool
-badValues request width values = not (eqb (length values) (valuesLength (functionOf request) width (maskIn request)))
 
 -- the fields, the earlier judged first; an archive kind cannot be wrong
 abbrev pub archiveFaults : ℕ → DateTime → DateTime → List Rule
@@ -40,19 +24,9 @@ fieldFaults (Q.ReadArchive a) = archiveFaults (a .mask) (a .first) (a .last)
 fieldFaults (Q.ReadParameter index) = []
 fieldFaults (Q.WriteParameter index) = []
 
--- 17 payload above 245
-abbrev pub tooLong : ℕ → Bool
-tooLong needed = ltb 245 needed
-
--- 16 output shorter than needed
-abbrev pub noRoom : ℕ → ℕ → Bool
-noRoom needed room = ltb room needed
-
-abbrev pub roomRules : ℕ → ℕ → List Rule
-roomRules needed room = 17 when tooLong needed ∷ 16 when noRoom needed room ∷ []
-
+-- "writing, field faults first, then 17, then 16"; "Writing uses the reading numbers for the same faults"
 abbrev pub writingRules : Request → ℕ → List ℕ → ℕ → List Rule
 writingRules request width values room =
-    1 when badWidth width
-    ∷ 11 when badValues request width values
-    ∷ (fieldFaults request ++ roomRules (length (requestBytes request values)) room)
+    valuesRules (valuesAfter (functionOf request)) width (valuesMask request) values
+    ++ fieldFaults request
+    ++ roomRules (length (requestBytes request values)) room

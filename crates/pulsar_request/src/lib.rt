@@ -1,6 +1,5 @@
 // The bodies of the standard functions' requests, read and written. A body is a head of fixed fields and, in two of the functions, value
 // bytes after it; these are not copied: `request_values` hands them back as a part of the body.
-pub mod fields;
 mod judge;
 
 use date::DateTime;
@@ -10,7 +9,7 @@ ghost use lib.Seq.{sets};
 ghost use lib.ListN.{length};
 ghost use Rattle.wire.specs.Writes.{Writes};
 ghost use Rattle.wire.specs.Refusal.{first};
-ghost use Rattle.pulsar_request.specs.Layout.{functionFrom, functionOf, typeFrom, typeNumber, archiveOf, requestOf, archiveBytes, headBytes, requestBytes, valuesOf};
+ghost use Rattle.pulsar_request.specs.Layout.{functionFrom, functionOf, functionNumber, typeFrom, typeNumber, archiveOf, requestOf, archiveBytes, headBytes, requestBytes, valuesOf};
 ghost use Rattle.pulsar_request.specs.Reading.{readRequest};
 ghost use Rattle.pulsar_request.specs.Writing.{writingRules};
 
@@ -133,7 +132,7 @@ pub fn read_request(function: u8, width: usize, body: &[u8]) -> RequestRead
     ensures { λ r. ⌜ r ≡ readRequest function width (now (body .entry)) ⌝ }
 {
     let asked = function_from(function);
-    let refusal = judge::reading(asked, width, body);
+    let refusal = judge::read_fault(asked, width, body);
     if refusal != 0 {
         return RequestRead::Refused(refusal);
     }
@@ -151,6 +150,21 @@ fn function_of(request: Request) -> Function
         Request::ReadArchive(_) => Function::ReadArchive,
         Request::ReadParameter(_) => Function::ReadParameter,
         Request::WriteParameter(_) => Function::WriteParameter,
+    }
+}
+
+// The function of a request, as its frame bears it.
+pub fn request_function(request: Request) -> u8
+    ensures { λ r. ⌜ r ≡ functionNumber (functionOf request) ⌝ }
+{
+    match request {
+        Request::ReadChannels(_) => 0x01,
+        Request::WriteChannels(_) => 0x02,
+        Request::ReadClock => 0x04,
+        Request::SetClock(_) => 0x05,
+        Request::ReadArchive(_) => 0x06,
+        Request::ReadParameter(_) => 0x0A,
+        Request::WriteParameter(_) => 0x0B,
     }
 }
 
@@ -192,7 +206,7 @@ fn put_head(request: Request, out: &mut [u8])
 pub fn write_request_body(request: Request, width: usize, values: &[u8], out: &mut [u8]) -> Written
     ensures { λ r. ⌜ Writes (first (writingRules request width (now (values .entry)) (length (now (out .entry))))) (requestBytes request (now (values .entry))) (now (out .entry)) r (now (out .exit)) ⌝ }
 {
-    let refusal = judge::writing(request, width, values, out.len());
+    let refusal = judge::write_fault(request, width, values, out.len());
     if refusal != 0 {
         return Written::Refused(refusal);
     }

@@ -3,20 +3,18 @@
 use mathlib.Core.Path.{_≡_, refl, sym, ap, ap₂, _∙_, subst}
 use mathlib.Core.Bool.{Bool, true, false, _&&_}
 use mathlib.Core.List.{List, [], _∷_}
-use Prim.Native.Nat.{ℕ, zero, suc, _+_, _-_, _*_, _%_, _^_, _<_, _≤_}
-use native.Mathlib.Nat.{pow-suc, pow-zero, one-le-pow, mod-eq-of-lt}
+use Prim.Native.Nat.{ℕ, zero, suc, _+_, _-_, _*_, _^_, _<_, _≤_}
+use native.Mathlib.Nat.{pow-suc, mod-eq-of-lt}
 use native.Mathlib.Omega.{arith}
 use lib.Dec.{eqb, lit<}
 use lib.ListN.{length}
 use borrow.Author.Tests.{eq-eqb, ne-eqb, eqb-true, eqb-false}
-use Rattle.wire.specs.Each.{Each, Bytes}
+use Rattle.wire.specs.Each.{Bytes}
 use Rattle.wire.specs.Numbers.{ofLe, number}
-use Rattle.wire.specs.Refusal.{first, FirstInOrder}
-use Rattle.wire.proofs.Bools.{and-true}
+use Rattle.wire.proofs.Bools.{and-both}
 use Rattle.wire.proofs.Numbers.{number-lt}
-use Rattle.wire.proofs.Refusal.{refusal-law}
-use Rattle.reading.specs.Reading.{widthOf, numberOf, kindFrom, readingOf, bitsOf, kindOf, isAbsent, same, FitsKind, valueRules}
-use Rattle.reading.specs.Values.{placeRules, searchRules, allFF}
+use Rattle.reading.specs.Reading.{widthOf, numberOf, kindFrom, readingOf, bitsOf, kindOf, isAbsent, same, FitsKind}
+use Rattle.reading.specs.Values.{allFF}
 use Rattle.reading.specs.declared.Kind.{Kind}
 use Rattle.reading.specs.declared.Kind.the-variants as K
 use Rattle.reading.specs.declared.Reading.{Reading}
@@ -50,6 +48,12 @@ kind-of-made K.F64 n = refl
 kind-of-made K.U32 n = refl
 kind-of-made K.U64 n = refl
 
+bits-of-made : (k : Kind) (n : ℕ) → n < 256 ^ widthOf k → bitsOf (readingOf k n) ≡ n
+bits-of-made K.F32 n h = mod-eq-of-lt h
+bits-of-made K.F64 n h = refl
+bits-of-made K.U32 n h = mod-eq-of-lt h
+bits-of-made K.U64 n h = refl
+
 pub made-again : (r : Reading) → FitsKind r → readingOf (kindOf r) (bitsOf r) ≡ r
 made-again (F32 n) h = ap F32 (mod-eq-of-lt h)
 made-again (F64 n) h = refl
@@ -80,14 +84,19 @@ whole (F64 n) = refl
 whole (U32 n) = refl
 whole (U64 n) = refl
 
--- readings that are the same are one, and one is the same as itself: a NaN too, and +0 is not -0
-pub same-is-one : (a b : Reading) → same a b ≡ true → a ≡ b
-same-is-one a b e =
-    let t = and-true (eqb (numberOf (kindOf a)) (numberOf (kindOf b))) (eqb (bitsOf a) (bitsOf b)) e in
-    sym (whole a) ∙ ap₂ made (eqb-true (numberOf (kindOf a)) (numberOf (kindOf b)) (t .0)) (eqb-true (bitsOf a) (bitsOf b) (t .1)) ∙ whole b
+-- readings are the same when kind and bits are
+pub same-by-bits : (a b : Reading) → kindOf a ≡ kindOf b → bitsOf a ≡ bitsOf b → same a b ≡ true
+same-by-bits a b k e =
+    ap₂ (λ (x y : Bool). x && y) (eq-eqb (numberOf (kindOf a)) (numberOf (kindOf b)) (ap numberOf k)) (eq-eqb (bitsOf a) (bitsOf b) e)
 
-pub same-as-itself : (a : Reading) → same a a ≡ true
-same-as-itself a = ap₂ (λ (x y : Bool). x && y) (eq-eqb (numberOf (kindOf a)) (numberOf (kindOf a)) refl) (eq-eqb (bitsOf a) (bitsOf a) refl)
+-- and just then they are one: a NaN is the same as itself, and +0 is not -0
+pub same-is-one : (a b : Reading) → (same a b ≡ true → a ≡ b) × (a ≡ b → same a b ≡ true)
+same-is-one a b = (one, λ e. same-by-bits a b (ap kindOf e) (ap bitsOf e))
+  where
+    one : same a b ≡ true → a ≡ b
+    one e =
+        let t = and-both (eqb (numberOf (kindOf a)) (numberOf (kindOf b))) (eqb (bitsOf a) (bitsOf b)) e in
+        sym (whole a) ∙ ap₂ made (eqb-true (numberOf (kindOf a)) (numberOf (kindOf b)) (t .0)) (eqb-true (bitsOf a) (bitsOf b) (t .1)) ∙ whole b
 
 -- ---- absence
 
@@ -120,31 +129,11 @@ absent-bytes (b ∷ bs) h =
     ∙ ones b (number 256 bs) (256 ^ length bs) (h .0) (number-lt 256 (lit< tt) bs (h .1))
     ∙ ap (λ (t : Bool). eqb b 255 && t) (absent-bytes bs (h .1))
 
--- the bits of a reading of a kind are the number, and its kind is the kind
-bits-of : (k : Kind) (n : ℕ) → n < 256 ^ widthOf k → (bitsOf (readingOf k n) ≡ n) × (kindOf (readingOf k n) ≡ k)
-bits-of K.F32 n h = (mod-eq-of-lt h, refl)
-bits-of K.F64 n h = (refl, refl)
-bits-of K.U32 n h = (mod-eq-of-lt h, refl)
-bits-of K.U64 n h = (refl, refl)
-
 -- a reading of a kind's bytes is absent just where each is FF
 pub absent-is-all-FF : (k : Kind) (bs : List ℕ) → Bytes bs → length bs ≡ widthOf k → isAbsent (readingOf k (ofLe bs)) ≡ allFF bs
 unfolding ofLe
 absent-is-all-FF k bs h e =
     let fits : ofLe bs < 256 ^ widthOf k = subst (λ (n : ℕ). ofLe bs < 256 ^ n) e (number-lt 256 (lit< tt) bs h) in
-    let o = bits-of k (ofLe bs) fits in
-    ap₂ (λ (x : ℕ) (y : Kind). eqb x (256 ^ widthOf y - 1)) (o .0) (o .1)
+    ap₂ (λ (x : ℕ) (y : Kind). eqb x (256 ^ widthOf y - 1)) (bits-of-made k (ofLe bs) fits) (kind-of-made k (ofLe bs))
     ∙ ap (λ (n : ℕ). eqb (ofLe bs) (256 ^ n - 1)) (sym e)
     ∙ absent-bytes bs h
-
--- ---- the order of refusals
-
-pub value-rules-first : (kind : Kind) (bytes : List ℕ) → FirstInOrder (valueRules kind bytes) (first (valueRules kind bytes))
-value-rules-first kind bytes = refusal-law (valueRules kind bytes) tt
-
-pub place-rules-first : (width : ℕ) (kind : Kind) (values : List ℕ) (place : ℕ)
-    → FirstInOrder (placeRules width kind values place) (first (placeRules width kind values place))
-place-rules-first width kind values place = refusal-law (placeRules width kind values place) tt
-
-pub search-rules-first : (width : ℕ) (values : List ℕ) → FirstInOrder (searchRules width values) (first (searchRules width values))
-search-rules-first width values = refusal-law (searchRules width values) tt

@@ -11,12 +11,12 @@ use borrow.Author.Tests.{le-ltb, eq-eqb, ltb-false, eqb-true, not-false}
 use Rattle.checksum.specs.Crc.{crcFrom}
 use Rattle.checksum.proofs.Laws.{crcFrom-lt}
 use Rattle.wire.specs.Each.{Bytes}
-use Rattle.wire.specs.Numbers.{le, digits, ofLe, field}
+use Rattle.wire.specs.Numbers.{le, digits, field}
 use Rattle.wire.proofs.Refusal.{first-none, none-first}
-use Rattle.wire.proofs.Bools.{or-false}
+use Rattle.wire.proofs.Bools.{or-neither}
 use Rattle.wire.proofs.Each.{each-append}
-use Rattle.wire.proofs.Numbers.{ofLe-le, le-ofLe, le-bytes}
-use Rattle.wire.proofs.Fields.{field-take, length-field, field-bytes}
+use Rattle.wire.proofs.Numbers.{ofLe-le, le-bytes}
+use Rattle.wire.proofs.Fields.{field-take, number-again}
 use Rattle.sm160_frame.specs.Layout.{QA, has, crcDue, frameWith, frameBytes, sessionOf, offsetOf, sizeOf, crcOf, flagsOf, partOf}
 use Rattle.sm160_frame.specs.Reading.{badPart, badFlags, wrongSize, wrongCrc, tooShort, frameRules, frameFault}
 use Rattle.sm160_frame.proofs.Stores.{length-frame, small-part}
@@ -25,49 +25,22 @@ abbrev B : ℕ → Type 0
 B b = b < 256
 
 pub small-flags : (flags : ℕ) → badFlags flags ≡ false → flags ≤ 7
-small-flags flags e = ltb-false 7 flags (or-false (has QA flags) (ltb 7 flags) e .1)
+small-flags flags e = ltb-false 7 flags (or-neither (has QA flags) (ltb 7 flags) e .1)
 
 -- ---- what was written
 module _ (crc session offset flags : ℕ) (p : List ℕ) where
-  abbrev S : List ℕ
-  S = frameWith crc session offset flags p
-
-  with-session : session < 65536 → sessionOf S ≡ session
-  unfolding frameWith field le digits
-  with-session h = ofLe-le 2 session h
-
-  with-offset : offset < 4294967296 → offsetOf S ≡ offset
-  unfolding frameWith field le digits
-  with-offset h = ofLe-le 4 offset h
-
-  with-size : length p < 65536 → sizeOf S ≡ length p
-  unfolding frameWith field le digits
-  with-size h = ofLe-le 2 (length p) h
-
-  with-crc : crc < 65536 → crcOf S ≡ crc
-  unfolding frameWith field le digits
-  with-crc h = ofLe-le 2 crc h
-
-  with-flags : flags < 65536 → flagsOf S ≡ flags
-  unfolding frameWith field le digits
-  with-flags h = ofLe-le 2 flags h
-
-  with-part : partOf S ≡ p
-  unfolding frameWith partOf le digits
-  with-part = refl
-
   -- the CRC16 that is due: from 0000 over the frame that bears 0
-  with-due : crcDue S ≡ crcFrom 0 (frameWith 0 session offset flags p)
+  with-due : crcDue (frameWith crc session offset flags p) ≡ crcFrom 0 (frameWith 0 session offset flags p)
   unfolding frameWith crcDue le digits
   with-due = refl
 
-  with-bytes : Bytes p → Bytes S
+  with-bytes : Bytes p → Bytes (frameWith crc session offset flags p)
   unfolding frameWith
   with-bytes hp =
-      each-append B (le 2 session) (le 4 offset ++ (le 2 (length p) ++ (le 2 crc ++ (le 2 flags ++ p)))) (le-bytes 2 session)
-      (each-append B (le 4 offset) (le 2 (length p) ++ (le 2 crc ++ (le 2 flags ++ p))) (le-bytes 4 offset)
-      (each-append B (le 2 (length p)) (le 2 crc ++ (le 2 flags ++ p)) (le-bytes 2 (length p))
-      (each-append B (le 2 crc) (le 2 flags ++ p) (le-bytes 2 crc)
+      each-append B (le 2 session) _ (le-bytes 2 session)
+      (each-append B (le 4 offset) _ (le-bytes 4 offset)
+      (each-append B (le 2 (length p)) _ (le-bytes 2 (length p))
+      (each-append B (le 2 crc) _ (le-bytes 2 crc)
       (each-append B (le 2 flags) p (le-bytes 2 flags) hp))))
 
 module _ (session offset flags : ℕ) (p : List ℕ) where
@@ -78,39 +51,42 @@ module _ (session offset flags : ℕ) (p : List ℕ) where
   due = crcDue (frameWith 0 session offset flags p)
 
   pub made-session : session < 65536 → sessionOf F ≡ session
-  unfolding frameBytes
-  made-session h = with-session due session offset flags p h
+  unfolding frameBytes frameWith field le digits
+  made-session h = ofLe-le 2 session h
 
   pub made-offset : offset < 4294967296 → offsetOf F ≡ offset
-  unfolding frameBytes
-  made-offset h = with-offset due session offset flags p h
+  unfolding frameBytes frameWith field le digits
+  made-offset h = ofLe-le 4 offset h
+
+  made-size : length p < 65536 → sizeOf F ≡ length p
+  unfolding frameBytes frameWith field le digits
+  made-size h = ofLe-le 2 (length p) h
+
+  made-crc : due < 65536 → crcOf F ≡ due
+  unfolding frameBytes frameWith field le digits
+  made-crc h = ofLe-le 2 due h
 
   pub made-flags : flags < 65536 → flagsOf F ≡ flags
-  unfolding frameBytes
-  made-flags h = with-flags due session offset flags p h
+  unfolding frameBytes frameWith field le digits
+  made-flags h = ofLe-le 2 flags h
 
   pub made-part : partOf F ≡ p
-  unfolding frameBytes
-  made-part = with-part due session offset flags p
+  unfolding frameBytes frameWith partOf le digits
+  made-part = refl
 
-  pub made-bytes : Bytes p → Bytes F
-  unfolding frameBytes
-  made-bytes hp = with-bytes due session offset flags p hp
+  right-length : tooShort F ≡ false
+  right-length = le-ltb (length F) 12 (omega (arith, length-frame session offset flags p))
 
-  made-long : tooShort F ≡ false
-  made-long = le-ltb (length F) 12 (omega (arith, length-frame session offset flags p))
+  right-size : length p < 65536 → wrongSize F ≡ false
+  right-size h = ap not (eq-eqb (sizeOf F) (length (partOf F)) (made-size h ∙ ap length (sym made-part)))
 
-  made-size : length p < 65536 → wrongSize F ≡ false
+  right-crc : Bytes p → wrongCrc F ≡ false
   unfolding frameBytes
-  made-size h = ap not (eq-eqb (sizeOf F) (length (partOf F)) (with-size due session offset flags p h ∙ ap length (sym made-part)))
-
-  made-crc : Bytes p → wrongCrc F ≡ false
-  unfolding frameBytes
-  made-crc hp =
+  right-crc hp =
       let small : due < 65536 =
       rw (with-due 0 session offset flags p) (crcFrom-lt 0 (frameWith 0 session offset flags p) (lit< tt) (with-bytes 0 session offset flags p hp)) in
       let same : due ≡ crcDue F = with-due 0 session offset flags p ∙ sym (with-due due session offset flags p) in
-      ap not (eq-eqb (crcOf F) (crcDue F) (with-crc due session offset flags p small ∙ same))
+      ap not (eq-eqb (crcOf F) (crcDue F) (made-crc small ∙ same))
 
   -- a frame made of good fields is good
   pub made-good : Bytes p → badPart p ≡ false → badFlags flags ≡ false → frameFault F ≡ 0
@@ -119,13 +95,13 @@ module _ (session offset flags : ℕ) (p : List ℕ) where
       let fits = small-part p good-part in
       let few = small-flags flags good-flags in
       first-none (frameRules F) (
-        made-long,
+        right-length,
         (
-          made-size (omega arith),
+          right-size (omega arith),
           (
             ap badPart made-part ∙ good-part,
             (
-              made-crc hp,
+              right-crc hp,
               (ap badFlags (made-flags (omega arith)) ∙ good-flags, tt),
             ),
           ),
@@ -134,10 +110,6 @@ module _ (session offset flags : ℕ) (p : List ℕ) where
 
 -- ---- what was read
 module _ (s : List ℕ) (bytes : Bytes s) where
-  number-bytes : (at w : ℕ) → le w (ofLe (field s at w)) ≡ field s at w
-  number-bytes at w =
-      ap (λ (k : ℕ). le k (ofLe (field s at w))) (sym (length-field s at w)) ∙ le-ofLe (field s at w) (field-bytes s at w bytes)
-
   header-parts : field s 0 2 ++ (field s 2 4 ++ (field s 6 2 ++ (field s 8 2 ++ (field s 10 2 ++ partOf s)))) ≡ field s 0 12 ++ partOf s
   unfolding field
   header-parts = refl
@@ -149,7 +121,7 @@ module _ (s : List ℕ) (bytes : Bytes s) where
   read-with : 12 ≤ length s → sizeOf s ≡ length (partOf s) → frameWith (crcOf s) (sessionOf s) (offsetOf s) (flagsOf s) (partOf s) ≡ s
   unfolding frameWith
   read-with long size =
-      cc (number-bytes 0 2, number-bytes 2 4, number-bytes 6 2, number-bytes 8 2, number-bytes 10 2, header-parts, whole long)
+      cc (number-again s 0 2 bytes, number-again s 2 4 bytes, number-again s 6 2 bytes, number-again s 8 2 bytes, number-again s 10 2 bytes, header-parts, whole long)
 
   -- where no rule of 21 to 25 holds, the bytes are those of the fields
   pub read-bytes : frameFault s ≡ 0 → frameBytes (sessionOf s) (offsetOf s) (flagsOf s) (partOf s) ≡ s

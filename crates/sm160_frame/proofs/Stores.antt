@@ -2,7 +2,7 @@
 -- Assumes nothing.
 use mathlib.Core.Path.{_≡_, refl, sym, ap, _∙_}
 use mathlib.Core.List.{List, [], _∷_}
-use Prim.Native.Nat.{ℕ, zero, suc, _+_, _≤_}
+use Prim.Native.Nat.{ℕ, _+_, _≤_}
 use native.Mathlib.Omega.{arith}
 use mathlib.Core.Bool.{false}
 use borrow.Author.Tests.{ltb-false}
@@ -14,11 +14,9 @@ use Rattle.checksum.proofs.Laws.{crcFrom-append}
 use Rattle.wire.specs.Numbers.{le, digits, over}
 use Rattle.wire.proofs.Numbers.{length-le}
 use Rattle.wire.proofs.Writing.{sets-over, take-sets}
-use Rattle.wire.proofs.Bools.{or-false}
+use Rattle.wire.proofs.Bools.{or-neither}
 use Rattle.sm160_frame.specs.Layout.{crcDue, frameWith, frameBytes}
-use Rattle.sm160_frame.specs.Reading.{badPart, frameFault, fieldsOf, readAnswer, readFrame}
-use Rattle.sm160_frame.specs.declared.FrameRead.the-variants.{Frame, Refused}
-use Rattle.sm160_frame.specs.declared.Fields.{Fields}
+use Rattle.sm160_frame.specs.Reading.{badPart}
 
 -- up to CRC16, two zeros, the rest
 pub crc-in-stretches : (s : List ℕ) → crcDue s ≡ crcFrom (crcFrom (crcFrom 0 (take 8 s)) (0 ∷ 0 ∷ [])) (drop 10 s)
@@ -60,17 +58,4 @@ module _ (session offset flags : ℕ) (p : List ℕ) where
       ap (λ (l : List ℕ). sets l 8 (le 2 (crcDue bs))) (sets-over out bs fits) ∙ crc-stored (crcDue bs) out
 
 pub small-part : (p : List ℕ) → badPart p ≡ false → length p ≤ 240
-small-part p e = ltb-false 240 (length p) (or-false (eqb (length p) 0) (ltb 240 (length p)) e .1)
-
--- what reading answers: at no fault, and at one
-pub read-good : (n : ℕ) (s : List ℕ) (f : Fields) → n ≡ frameFault s → n ≡ 0 → f ≡ fieldsOf s → Frame f ≡ readFrame s
-unfolding readFrame
-read-good n s f e z ef = ap Frame ef ∙ ap (λ (k : ℕ). readAnswer k s) (sym z ∙ e)
-
-refused-read : (n : ℕ) (s : List ℕ) → (n ≡ 0 → ⊥) → Refused n ≡ readAnswer n s
-refused-read zero s h = absurd (h refl)
-refused-read (suc n) s h = refl
-
-pub read-bad : (n : ℕ) (s : List ℕ) → n ≡ frameFault s → (n ≡ 0 → ⊥) → Refused n ≡ readFrame s
-unfolding readFrame
-read-bad n s e h = refused-read n s h ∙ ap (λ (k : ℕ). readAnswer k s) e
+small-part p e = ltb-false 240 (length p) (or-neither (eqb (length p) 0) (ltb 240 (length p)) e .1)

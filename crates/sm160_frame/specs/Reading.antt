@@ -1,11 +1,12 @@
 -- What reading a frame by its fields alone answers: the conditions of the refusal table, their order, and the answer.
 -- Assumes nothing.
-use Prim.Native.Nat.{ℕ, zero, suc, _+_}
+use Prim.Native.Nat.{ℕ, _+_}
 use mathlib.Core.Bool.{Bool, not, _||_}
 use mathlib.Core.List.{List, [], _∷_}
 use lib.Dec.{ltb, eqb}
 use lib.ListN.{length}
 use Rattle.wire.specs.Refusal.{Rule, _when_, first}
+use Rattle.wire.specs.Answer.{answered}
 use Rattle.wire.specs.Told.{Told, accepted, refused}
 use Rattle.sm160_frame.specs.Layout.{QA, START, END, has, sessionOf, offsetOf, sizeOf, crcOf, crcDue, flagsOf, partOf}
 use Rattle.sm160_frame.specs.declared.Fields.{Fields}
@@ -24,15 +25,15 @@ wrongSize s = not (eqb (sizeOf s) (length (partOf s)))
 abbrev pub badPart : List ℕ → Bool
 badPart part = eqb (length part) 0 || ltb 240 (length part)
 
--- 24 CRC16 differs
+-- 24 part's CRC16 differs
 abbrev pub wrongCrc : List ℕ → Bool
 wrongCrc s = not (eqb (crcOf s) (crcDue s))
 
--- 25 QA or an unknown flag set: the known ones are the lowest three bits
+-- 25 QA or an unknown flag set: "a controller's frame with QA 0", and the known ones are the lowest three bits
 abbrev pub badFlags : ℕ → Bool
 badFlags flags = has QA flags || ltb (QA + START + END) flags
 
--- the order
+-- "A frame is also read and written by its fields alone, under 16 and 21 to 25." "Order is by number"
 abbrev pub frameRules : List ℕ → List Rule
 frameRules s =
     21 when tooShort s
@@ -50,13 +51,8 @@ frameFault s = first (frameRules s)
 abbrev pub fieldsOf : List ℕ → Fields
 fieldsOf s = record { session = sessionOf s; offset = offsetOf s; flags = flagsOf s }
 
--- the answer where the refusal is n: with 0, for none, the fields
-abbrev pub readAnswer : ℕ → List ℕ → FrameRead
-readAnswer zero s = Frame (fieldsOf s)
-readAnswer (suc n) s = Refused (suc n)
-
 unfoldable pub readFrame : List ℕ → FrameRead
-readFrame s = readAnswer (frameFault s) s
+readFrame s = answered Refused (Frame (fieldsOf s)) (frameFault s)
 
 abbrev pub toldFrameRead : FrameRead → Told
 toldFrameRead (Frame f) = accepted (f .session ∷ f .offset ∷ f .flags ∷ [])

@@ -4,11 +4,9 @@ ghost use Prim.Native.Nat.{_+_, _≤_};
 ghost use lib.ListN.{length};
 ghost use lib.Seq.{sets};
 ghost use Rattle.wire.specs.Numbers.{over};
-ghost use Rattle.wire.specs.Refusal.{first};
-ghost use Rattle.wire.specs.Writes.{Writes};
 ghost use Rattle.sm160_frame.specs.Layout.{sessionOf, offsetOf, sizeOf, crcOf, crcDue, flagsOf, partOf, isStart, isEnd, frameWith, frameBytes};
-ghost use Rattle.sm160_frame.specs.Reading.{tooShort, wrongSize, badPart, wrongCrc, badFlags, frameFault, fieldsOf, readAnswer, readFrame};
-ghost use Rattle.sm160_frame.specs.Writing.{writeRules};
+ghost use Rattle.sm160_frame.specs.Reading.{tooShort, wrongSize, badPart, wrongCrc, badFlags, frameFault, fieldsOf, readFrame};
+ghost use Rattle.sm160_frame.specs.Writing.{WritesFrame};
 use wire::Written;
 
 // The flags: QA marks a master's frame, START a file's first, END its last.
@@ -95,16 +93,10 @@ fn too_short(bytes: &[u8]) -> bool
     bytes.len() < 12
 }
 
-fn wide(x: u16) -> usize
-    ensures { λ r. ⌜ r ≡ x ⌝ }
-{
-    x as usize
-}
-
 fn wrong_size(bytes: &[u8]) -> bool
     ensures { λ r. ⌜ r ≡ wrongSize (now (bytes .entry)) ⌝ }
 {
-    wide(size_of(bytes)) != part_of(bytes).len()
+    size_of(bytes) as usize != part_of(bytes).len()
 }
 
 fn bad_part(part: &[u8]) -> bool
@@ -205,7 +197,7 @@ fn put_frame(session: u16, offset: u32, flags: u16, part: &[u8], out: &mut [u8])
 
 // The frame, over the front of out.
 pub fn write_frame(session: u16, offset: u32, flags: u16, part: &[u8], out: &mut [u8]) -> Written
-    ensures { λ r. ⌜ Writes (first (writeRules flags (now (part .entry)) (now (out .entry)))) (frameBytes session offset flags (now (part .entry))) (now (out .entry)) r (now (out .exit)) ⌝ }
+    ensures { λ r. ⌜ WritesFrame session offset flags (now (part .entry)) (now (out .entry)) r (now (out .exit)) ⌝ }
 {
     if bad_part(part) {
         return Written::Refused(23);

@@ -1,6 +1,6 @@
 -- The receiver of a file: what it answers to a frame, and what its state and the lent buffer are afterwards.
 -- Assumes nothing.
-use Prim.Native.Nat.{ℕ, zero, suc, _+_}
+use Prim.Native.Nat.{ℕ, _+_}
 use mathlib.Core.Path.{_≡_}
 use mathlib.Core.Bool.{Bool, true, false, not, _||_, _&&_}
 use mathlib.Core.List.{List, [], _∷_, _++_}
@@ -8,6 +8,7 @@ use lib.Dec.{ltb, eqb}
 use lib.ListN.{length}
 use lib.Seq.{sets}
 use Rattle.wire.specs.Refusal.{Rule, _when_, first}
+use Rattle.wire.specs.Answer.{answered}
 use Rattle.wire.specs.Told.{Told, accepted, refused}
 use Rattle.sm160_frame.specs.Layout.{sessionOf, offsetOf, partOf, isStart, isEnd}
 use Rattle.sm160_frame.specs.Reading.{frameRules}
@@ -15,21 +16,25 @@ use Rattle.sm160_receiver.specs.declared.Receiver.{Receiver}
 use Rattle.sm160_receiver.specs.declared.Answer.{Answer}
 use Rattle.sm160_receiver.specs.declared.Answer.the-variants.{Held, Complete, Refused}
 
--- opening sets count 0, nothing under way
+-- "Opening sets count 0, nothing under way."
 abbrev pub opened : ℕ → Receiver
 opened session = record { session = session; «under_way» = false; count = 0 }
 
+-- "A receiver is a session, whether a file is under way, and the count held": s with these two, and all else of it stays
+abbrev pub standing : Receiver → Bool → ℕ → Receiver
+standing s underWay n = record { session = s .session; «under_way» = underWay; count = n }
+
 -- a file under way, of which n bytes are held
 abbrev pub holding : ℕ → ℕ → Receiver
-holding session n = record { session = session; «under_way» = true; count = n }
+holding session n = standing (opened session) true n
 
 -- where a frame's part ends
 unfoldable pub reached : List ℕ → ℕ
 reached f = offsetOf f + length (partOf f)
 
--- 20 count beyond the buffer's bytes, under way with 0, or idle with other than 0
-unfoldable pub unfit : Receiver → ℕ → Bool
-unfit s room = ltb room (s .count) || (s .«under_way» && eqb (s .count) 0) || (not (s .«under_way») && not (eqb (s .count) 0))
+-- 20 state unfit: receiver's count beyond the buffer, under way with 0, or idle with other than 0
+unfoldable pub unfit : Receiver → List ℕ → Bool
+unfit s b = ltb (length b) (s .count) || (s .«under_way» && eqb (s .count) 0) || (not (s .«under_way») && not (eqb (s .count) 0))
 
 -- 26 other session
 abbrev pub otherSession : Receiver → List ℕ → Bool
@@ -52,26 +57,26 @@ abbrev pub aboveCount : Receiver → List ℕ → Bool
 aboveCount s f = not (isStart f) && ltb (s .count) (offsetOf f)
 
 -- 31 part ends beyond the buffer
-abbrev pub beyondBuffer : ℕ → List ℕ → Bool
-beyondBuffer room f = ltb room (reached f)
+abbrev pub beyondBuffer : List ℕ → List ℕ → Bool
+beyondBuffer b f = ltb (length b) (reached f)
 
--- the order, with a buffer of `room` bytes: 20, then 21 to 25 of the frame by itself, then 26 to 31
-abbrev pub placeRules : Receiver → ℕ → List ℕ → List Rule
-placeRules s room f =
+-- "Order is by number", at a receiver s with the buffer b: 20, then 21 to 25 of the frame by itself, then 26 to 31
+abbrev pub placeRules : Receiver → List ℕ → List ℕ → List Rule
+placeRules s b f =
     26 when otherSession s f
     ∷ 27 when nothingUnderWay s f
     ∷ 28 when startElsewhere f
     ∷ 29 when belowCount s f
     ∷ 30 when aboveCount s f
-    ∷ 31 when beyondBuffer room f
+    ∷ 31 when beyondBuffer b f
     ∷ []
 
-abbrev pub receiveRules : Receiver → ℕ → List ℕ → List Rule
-receiveRules s room f = 20 when unfit s room ∷ (frameRules f ++ placeRules s room f)
+abbrev pub receiveRules : Receiver → List ℕ → List ℕ → List Rule
+receiveRules s b f = 20 when unfit s b ∷ (frameRules f ++ placeRules s b f)
 
 -- the number of the first that holds, 0 for none
-unfoldable pub refusal : Receiver → ℕ → List ℕ → ℕ
-refusal s room f = first (receiveRules s room f)
+unfoldable pub refusal : Receiver → List ℕ → List ℕ → ℕ
+refusal s b f = first (receiveRules s b f)
 
 -- what a frame comes to
 pub record After : Type 0 where
@@ -79,50 +84,41 @@ pub record After : Type 0 where
   pub state : Receiver
   pub buffer : List ℕ
 
--- a refusal changes neither state nor buffer
+-- "Each returns its number and leaves every buffer and state untouched."
 abbrev pub refuse : ℕ → Receiver → List ℕ → After
 refuse n s b = record { answer = Refused n; state = s; buffer = b }
 
--- END completes: the answer is the length, then nothing is under way and the count is 0; any other frame is answered with the new count
+-- "END completes: the answer is the length" and "Any other accepted frame is answered with the new count."
 abbrev pub reply : Bool → ℕ → Answer
 reply true n = Complete n
 reply false n = Held n
 
--- the state that it leaves
-abbrev pub left : Bool → ℕ → ℕ → Receiver
-left true session n = opened session
-left false session n = holding session n
+-- the state after it, made from the state before it; at END "then nothing is under way and the count is 0"
+abbrev pub stateAfter : Bool → Receiver → ℕ → Receiver
+stateAfter true s n = standing s false 0
+stateAfter false s n = standing s true n
 
--- an accepted frame's part is stored from its offset on, exactly its bytes, and the file reaches to the part's end; at START, which is
--- at offset 0, it begins again
+-- "START begins again at 0, even over a file under way": an accepted frame's part is stored from its offset on, exactly its bytes, and the
+-- file reaches to the part's end
 abbrev pub accept : Receiver → List ℕ → List ℕ → After
 accept s f b =
     record {
       answer = reply (isEnd f) (reached f);
-      state = left (isEnd f) (s .session) (reached f);
+      state = stateAfter (isEnd f) s (reached f);
       buffer = sets b (offsetOf f) (partOf f);
     }
 
 unfoldable pub Accepts : Receiver → List ℕ → List ℕ → Answer → Receiver → List ℕ → Type 0
 Accepts s f b a s′ b′ = record { answer = a; state = s′; buffer = b′ } ≡ accept s f b
 
--- where the refusal is n: with 0, for none, the frame is accepted
-abbrev pub stepBy : ℕ → Receiver → List ℕ → List ℕ → After
-stepBy zero s f b = accept s f b
-stepBy (suc n) s f b = refuse (suc n) s b
-
 -- one frame f, at a receiver s with the buffer b
 unfoldable pub step : Receiver → List ℕ → List ℕ → After
-step s f b = stepBy (refusal s (length b) f) s f b
+step s f b = answered (λ n. refuse n s b) (accept s f b) (refusal s b f)
 
--- what both functions promise: the answer, the state and the buffer after a frame are those, and no others
+-- "The receiver's state is lent to each call and updated there, after the core stands by value": what each function that takes a frame
+-- promises of the answer, the state and the buffer
 unfoldable pub Took : Receiver → List ℕ → List ℕ → Answer → Receiver → List ℕ → Type 0
 Took s f b a s′ b′ = record { answer = a; state = s′; buffer = b′ } ≡ step s f b
-
--- the same of a receiver opened for the frame, whose state is let go
-pub record TookFirst (session : ℕ) (f b : List ℕ) (a : Answer) (b′ : List ℕ) : Type 0 where
-  pub answer : a ≡ step (opened session) f b .answer
-  pub buffer : b′ ≡ step (opened session) f b .buffer
 
 -- accepted with 0 and the count held, or with 1 and the length of the whole file
 abbrev pub toldAnswer : Answer → Told

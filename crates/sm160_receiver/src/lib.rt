@@ -7,6 +7,7 @@ ghost use mathlib.Core.Path.{_≡_};
 ghost use Rattle.wire.specs.Refusal.{first};
 ghost use Rattle.sm160_receiver.specs.Receiving.{
   opened,
+  standing,
   reached,
   unfit,
   otherSession,
@@ -18,10 +19,9 @@ ghost use Rattle.sm160_receiver.specs.Receiving.{
   placeRules,
   refusal,
   reply,
-  left,
+  stateAfter,
   Accepts,
   Took,
-  TookFirst,
 };
 
 // A session, whether a file is under way, and how many of its bytes are held. The count is as wide as a length, so that no sum wraps.
@@ -55,25 +55,19 @@ pub fn open(session: u16) -> Receiver
     }
 }
 
-fn wide(x: u32) -> usize
-    ensures { λ r. ⌜ r ≡ x ⌝ }
-{
-    x as usize
-}
-
 // Where the frame's part ends.
 fn reach(frame: &[u8]) -> usize
     ensures { λ r. ⌜ r ≡ reached (now (frame .entry)) ⌝ }
 {
-    wide(sm160_frame::offset_of(frame)) + sm160_frame::part_of(frame).len()
+    sm160_frame::offset_of(frame) as usize + sm160_frame::part_of(frame).len()
 }
 
-fn is_unfit(state: Receiver, room: usize) -> bool
-    ensures { λ r. ⌜ r ≡ unfit state room ⌝ }
+fn is_unfit(state: Receiver, buffer: &[u8]) -> bool
+    ensures { λ r. ⌜ r ≡ unfit state (now (buffer .entry)) ⌝ }
 {
     let n = state.count;
     let going = state.under_way;
-    (room < n) | (going & (n == 0)) | (!going & (n != 0))
+    (buffer.len() < n) | (going & (n == 0)) | (!going & (n != 0))
 }
 
 fn other_session(state: Receiver, frame: &[u8]) -> bool
@@ -97,24 +91,24 @@ fn start_elsewhere(frame: &[u8]) -> bool
 fn below_count(state: Receiver, frame: &[u8]) -> bool
     ensures { λ r. ⌜ r ≡ belowCount state (now (frame .entry)) ⌝ }
 {
-    !sm160_frame::is_start(frame) & (wide(sm160_frame::offset_of(frame)) < state.count)
+    !sm160_frame::is_start(frame) & ((sm160_frame::offset_of(frame) as usize) < state.count)
 }
 
 fn above_count(state: Receiver, frame: &[u8]) -> bool
     ensures { λ r. ⌜ r ≡ aboveCount state (now (frame .entry)) ⌝ }
 {
-    !sm160_frame::is_start(frame) & (state.count < wide(sm160_frame::offset_of(frame)))
+    !sm160_frame::is_start(frame) & (state.count < sm160_frame::offset_of(frame) as usize)
 }
 
-fn beyond_buffer(room: usize, frame: &[u8]) -> bool
-    ensures { λ r. ⌜ r ≡ beyondBuffer room (now (frame .entry)) ⌝ }
+fn beyond_buffer(buffer: &[u8], frame: &[u8]) -> bool
+    ensures { λ r. ⌜ r ≡ beyondBuffer (now (buffer .entry)) (now (frame .entry)) ⌝ }
 {
-    room < reach(frame)
+    buffer.len() < reach(frame)
 }
 
 // The first rule of 26 to 31 that the frame breaks where the receiver stands, 0 for none.
-fn place_fault(state: Receiver, room: usize, frame: &[u8]) -> u8
-    ensures { λ r. ⌜ r ≡ first (placeRules state room (now (frame .entry))) ⌝ }
+fn place_fault(state: Receiver, buffer: &[u8], frame: &[u8]) -> u8
+    ensures { λ r. ⌜ r ≡ first (placeRules state (now (buffer .entry)) (now (frame .entry))) ⌝ }
 {
     if other_session(state, frame) {
         return 26;
@@ -131,27 +125,27 @@ fn place_fault(state: Receiver, room: usize, frame: &[u8]) -> u8
     if above_count(state, frame) {
         return 30;
     }
-    if beyond_buffer(room, frame) {
+    if beyond_buffer(buffer, frame) {
         return 31;
     }
     0
 }
 
 // The first rule of 20 to 31 that holds, 0 for none.
-fn fault(state: Receiver, room: usize, frame: &[u8]) -> u8
-    ensures { λ r. ⌜ r ≡ refusal state room (now (frame .entry)) ⌝ }
+fn fault(state: Receiver, buffer: &[u8], frame: &[u8]) -> u8
+    ensures { λ r. ⌜ r ≡ refusal state (now (buffer .entry)) (now (frame .entry)) ⌝ }
 {
-    if is_unfit(state, room) {
+    if is_unfit(state, buffer) {
         return 20;
     }
     let by_itself = sm160_frame::frame_fault(frame);
     if by_itself != 0 {
         return by_itself;
     }
-    place_fault(state, room, frame)
+    place_fault(state, buffer, frame)
 }
 
-fn answered(ends: bool, reached: usize) -> Answer
+fn reply_to(ends: bool, reached: usize) -> Answer
     ensures { λ r. ⌜ r ≡ reply ends reached ⌝ }
 {
     if ends {
@@ -161,31 +155,41 @@ fn answered(ends: bool, reached: usize) -> Answer
     }
 }
 
-fn gone_on(ends: bool, session: u16, reached: usize) -> Receiver
-    ensures { λ r. ⌜ r ≡ left ends session reached ⌝ }
+// Nothing is under way after END; all that is not set here stays.
+fn state_after(ends: bool, state: Receiver, reached: usize) -> Receiver
+    ensures { λ r. ⌜ r ≡ stateAfter ends state reached ⌝ }
 {
     if ends {
-        open(session)
+        Receiver {
+            under_way: false,
+            count: 0,
+            ..state
+        }
     } else {
         Receiver {
-            session,
             under_way: true,
             count: reached,
+            ..state
         }
     }
 }
 
-// A frame that no rule refuses: its part is stored from its offset on, exactly its bytes.
+// A frame that no rule refuses: its part is stored, exactly its bytes. START begins again at 0, any other part goes on at the count.
 fn accept_frame(state: Receiver, frame: &[u8], buffer: &mut [u8]) -> Received
+    requires { ⌜ refusal state (now buffer) (now frame) ≡ 0 ⌝ }
     ensures { λ r. ⌜ Accepts state (now (frame .entry)) (now (buffer .entry)) (r .answer) (r .state) (now (buffer .exit)) ⌝ }
 {
     let ends = sm160_frame::is_end(frame);
     let reached = reach(frame);
-    let at = wide(sm160_frame::offset_of(frame));
+    let at = if sm160_frame::is_start(frame) {
+        0
+    } else {
+        state.count
+    };
     wire::put_all(buffer, at, sm160_frame::part_of(frame));
     Received {
-        answer: answered(ends, reached),
-        state: gone_on(ends, state.session, reached),
+        answer: reply_to(ends, reached),
+        state: state_after(ends, state, reached),
     }
 }
 
@@ -193,7 +197,7 @@ fn accept_frame(state: Receiver, frame: &[u8], buffer: &mut [u8]) -> Received
 pub fn receive(state: Receiver, frame: &[u8], buffer: &mut [u8]) -> Received
     ensures { λ r. ⌜ Took state (now (frame .entry)) (now (buffer .entry)) (r .answer) (r .state) (now (buffer .exit)) ⌝ }
 {
-    let number = fault(state, buffer.len(), frame);
+    let number = fault(state, buffer, frame);
     if number != 0 {
         return Received {
             answer: Answer::Refused(number),
@@ -212,14 +216,21 @@ pub fn receive_lent(state: &mut Receiver, frame: &[u8], buffer: &mut [u8]) -> An
     out.answer
 }
 
-// The first frame, at a receiver opened for it: with plain parameters, so that its callers need no proof by hand.
-pub fn receive_first(session: u16, frame: &[u8], buffer: &mut [u8]) -> Answer
-    ensures { λ a. ⌜ TookFirst session (now (frame .entry)) (now (buffer .entry)) a (now (buffer .exit)) ⌝ }
+// One frame, at a receiver that is given by its plain fields.
+pub fn receive_plain(
+    session: u16,
+    under_way: bool,
+    count: usize,
+    frame: &[u8],
+    buffer: &mut [u8],
+) -> Received
+    ensures { λ r. ⌜ Took (standing (opened session) «under_way» count) (now (frame .entry)) (now (buffer .entry)) (r .answer) (r .state) (now (buffer .exit)) ⌝ }
 {
     let mut state = Receiver {
         session,
-        under_way: false,
-        count: 0,
+        under_way,
+        count,
     };
-    receive_lent(&mut state, frame, buffer)
+    let answer = receive_lent(&mut state, frame, buffer);
+    Received { answer, state }
 }

@@ -1,40 +1,37 @@
 -- What the sender owes: at a refusal, and at none with what writing the frame has done.
 -- Assumes nothing.
-use mathlib.Core.Path.{_≡_, refl, sym, ap, ap₂, _∙_}
+use mathlib.Core.Path.{_≡_, sym, ap, ap₂, _∙_}
 use mathlib.Core.List.{List}
-use Prim.Native.Nat.{ℕ, zero, suc, _+_, _-_}
+use Prim.Native.Nat.{ℕ, _+_, _-_}
 use lib.Dec.{eqb}
 use lib.ListN.{length}
+use Rattle.wire.specs.Numbers.{over}
 use Rattle.wire.specs.Refusal.{first, NoneHolds}
 use Rattle.wire.specs.Writes.{Writes, writeOutput}
 use Rattle.wire.specs.declared.Written.{Written}
+use Rattle.wire.proofs.Answer.{answers-refused, answers-accepted}
 use Rattle.wire.proofs.Refusal.{first-none, none-first}
 use Rattle.sm160_frame.specs.Layout.{frameBytes}
 use Rattle.sm160_frame.specs.Writing.{writeRules}
 use Rattle.sm160_frame.proofs.Stores.{length-frame}
-use Rattle.sm160_sender.specs.Sending.{partAt, nextPlace, remainsAt, flagsFor, flagsAt, sentBytes, sendRules, sendAnswer, Sends}
+use Rattle.sm160_sender.specs.Sending.{partAt, nextPlace, remainsAt, flagsFor, flagsAt, sentBytes, sendRules, Sends}
 use Rattle.sm160_sender.specs.declared.Sent.{Sent}
 use Rattle.sm160_sender.specs.declared.Sent.the-variants.{Frame, Refused}
-use Rattle.sm160_sender.proofs.Parts.{Sendable, sendable, good-part, good-flags}
-
-refused : (n : ℕ) (bs : List ℕ) (next : ℕ) → (n ≡ 0 → ⊥) → Refused n ≡ sendAnswer n bs next
-refused zero bs next h = absurd (h refl)
-refused (suc n) bs next h = refl
-
-left-alone : (n : ℕ) (bs out : List ℕ) → (n ≡ 0 → ⊥) → out ≡ writeOutput n bs out
-left-alone zero bs out h = absurd (h refl)
-left-alone (suc n) bs out h = refl
+use Rattle.sm160_sender.proofs.Parts.{Sendable, sendable, good-part, flagged}
 
 -- number is what the code's judge answered
 module _ (file : List ℕ) (session largest place : ℕ) (out : List ℕ) (number : ℕ) (judged : number ≡ first (sendRules file largest place (length out))) where
   abbrev Bs : List ℕ
   Bs = sentBytes file session largest place
 
+  abbrev Next : ℕ
+  Next = nextPlace file largest place
+
   pub sends-refused : (number ≡ 0 → ⊥) → Sends file session largest place out (Refused number) out
-  sends-refused h =
+  sends-refused some =
       record {
-        answer = refused number Bs (nextPlace file largest place) h ∙ ap (λ (n : ℕ). sendAnswer n Bs (nextPlace file largest place)) judged;
-        output = left-alone number Bs out h ∙ ap (λ (n : ℕ). writeOutput n Bs out) judged;
+        answer = answers-refused Refused (Frame (length Bs) Next) number _ judged some;
+        output = answers-refused (λ _. out) (over out Bs) number _ judged some;
       }
 
   module _ (z : number ≡ 0) where
@@ -48,7 +45,7 @@ module _ (file : List ℕ) (session largest place : ℕ) (out : List ℕ) (numbe
     pub writable : first (writeRules (flagsAt file largest place) (partAt file largest place) out) ≡ 0
     writable =
         first-none (writeRules (flagsAt file largest place) (partAt file largest place) out)
-        (good-part file largest place may-send, (good-flags (eqb place 0) (eqb (remainsAt file largest place) 0), (rules .1 .1 .1 .0, tt)))
+        (good-part file largest place may-send, (flagged (eqb place 0) (eqb (remainsAt file largest place) 0) .good, (rules .1 .1 .1 .0, tt)))
 
     pub sends-frame : (part : List ℕ) (remains flags : ℕ) (r : Written) (out′ : List ℕ)
         → part ≡ partAt file largest place → remains ≡ length file - (place + length part) → flags ≡ flagsFor (eqb place 0) (eqb remains 0)
@@ -61,9 +58,9 @@ module _ (file : List ℕ) (session largest place : ℕ) (out : List ℕ) (numbe
         let none : first (sendRules file largest place (length out)) ≡ 0 = sym judged ∙ z in
         record {
           answer =
-              ap (λ (p : List ℕ). Frame (length p + 12) (place + length p)) ep
-              ∙ ap (λ (l : ℕ). Frame l (nextPlace file largest place)) (sym (length-frame session place (flagsAt file largest place) (partAt file largest place)))
-              ∙ sym (ap (λ (n : ℕ). sendAnswer n Bs (nextPlace file largest place)) none);
+              answers-accepted Refused (Frame (length Bs) Next) number _ _ judged z
+              (ap (λ (p : List ℕ). Frame (length p + 12) (place + length p)) ep
+              ∙ ap (λ (l : ℕ). Frame l Next) (sym (length-frame session place (flagsAt file largest place) (partAt file largest place))));
           output =
               w .output
               ∙ ap₂ (λ (f : ℕ) (p : List ℕ). writeOutput (first (writeRules f p out)) (frameBytes session place f p) out) e ep

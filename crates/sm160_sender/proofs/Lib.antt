@@ -1,6 +1,6 @@
 pub mod Parts
 pub mod Answers
-pub mod Course
+pub mod Whole
 pub mod Order
 pub mod Edges
 pub mod Unique

@@ -9,7 +9,8 @@ use native.Mathlib.Omega.{arith}
 use lib.Dec.{ltb, eqb}
 use lib.ListN.{length, drop, length-take, length-drop}
 use borrow.Author.Tests.{ltb-false, leb-false, eqb-false, ne-eqb, le-ltb}
-use Rattle.wire.proofs.Bools.{or-false, false-or}
+use Rattle.wire.proofs.Bools.{or-neither, neither-or}
+use Rattle.sm160_frame.specs.Layout.{START, END, has}
 use Rattle.sm160_frame.specs.Reading.{badPart, badFlags}
 use Rattle.sm160_sender.specs.Sending.{partAt, nextPlace, flagsFor, badFile, badLargest, pastEnd}
 
@@ -23,10 +24,10 @@ pub record Sendable (file : List ℕ) (largest place : ℕ) : Type 0 where
 module _ (file : List ℕ) (largest place : ℕ) where
   pub sendable : badFile file ≡ false → badLargest largest ≡ false → pastEnd file place ≡ false → Sendable file largest place
   sendable a b c =
-      let l = or-false (eqb largest 0) (ltb 240 largest) b in
+      let l = or-neither (eqb largest 0) (ltb 240 largest) b in
       let some = eqb-false largest 0 (l .0) in
       record {
-        small = ltb-false 4294967295 (length file) (or-false (eqb (length file) 0) (ltb 4294967295 (length file)) a .1);
+        small = ltb-false 4294967295 (length file) (or-neither (eqb (length file) 0) (ltb 4294967295 (length file)) a .1);
         least = omega (arith, some);
         most = ltb-false 240 largest (l .1);
         inside = leb-false (length file) place c;
@@ -45,10 +46,17 @@ module _ (file : List ℕ) (largest place : ℕ) where
   good-part g =
       let n = length-part g in
       let p = partAt file largest place in
-      false-or (eqb (length p) 0) (ltb 240 (length p)) (ne-eqb (length p) 0 (λ z. omega (arith, n .0, z))) (le-ltb 240 (length p) (omega (arith, n .1, g .most)))
+      neither-or (eqb (length p) 0) (ltb 240 (length p)) (ne-eqb (length p) 0 (λ z. omega (arith, n .0, z))) (le-ltb 240 (length p) (omega (arith, n .1, g .most)))
 
-pub good-flags : (start end : Bool) → badFlags (flagsFor start end) ≡ false
-good-flags true true = refl
-good-flags true false = refl
-good-flags false true = refl
-good-flags false false = refl
+-- a frame's flags say START and END as they are to be, and nothing else
+pub record Flagged (start end : Bool) : Type 0 where
+  pub starts : has START (flagsFor start end) ≡ start
+  pub ends : has END (flagsFor start end) ≡ end
+  pub good : badFlags (flagsFor start end) ≡ false
+  pub few : flagsFor start end ≤ 6
+
+pub flagged : (start end : Bool) → Flagged start end
+flagged true true = record { starts = refl; ends = refl; good = refl; few = omega arith }
+flagged true false = record { starts = refl; ends = refl; good = refl; few = omega arith }
+flagged false true = record { starts = refl; ends = refl; good = refl; few = omega arith }
+flagged false false = record { starts = refl; ends = refl; good = refl; few = omega arith }

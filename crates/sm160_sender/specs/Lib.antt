@@ -1,2 +1,2 @@
 pub mod Sending
-pub mod Course
+pub mod Whole

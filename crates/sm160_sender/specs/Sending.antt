@@ -1,19 +1,20 @@
 -- The sender of a file: one frame of it, from a place on.
 -- Assumes nothing.
-use Prim.Native.Nat.{ℕ, zero, suc, _+_, _-_}
+use Prim.Native.Nat.{ℕ, _+_, _-_}
 use mathlib.Core.Path.{_≡_}
 use mathlib.Core.Bool.{Bool, cond, _||_}
 use mathlib.Core.List.{List, [], _∷_}
 use lib.Dec.{ltb, leb, eqb}
 use lib.ListN.{length, take, drop}
 use Rattle.wire.specs.Refusal.{Rule, _when_, first}
+use Rattle.wire.specs.Answer.{answered}
 use Rattle.wire.specs.Told.{Told, accepted, refused}
 use Rattle.wire.specs.Writes.{writeOutput}
 use Rattle.sm160_frame.specs.Layout.{START, END, frameBytes}
 use Rattle.sm160_sender.specs.declared.Sent.{Sent}
 use Rattle.sm160_sender.specs.declared.Sent.the-variants.{Frame, Refused}
 
--- the part is the lesser of the largest part and what remains
+-- "the part is the lesser of the largest part and what remains"
 abbrev pub partAt : List ℕ → ℕ → ℕ → List ℕ
 partAt file largest place = take largest (drop place file)
 
@@ -24,34 +25,34 @@ nextPlace file largest place = place + length (partAt file largest place)
 abbrev pub remainsAt : List ℕ → ℕ → ℕ → ℕ
 remainsAt file largest place = length file - nextPlace file largest place
 
--- START exactly at place 0, END exactly when nothing remains; QA is 0
+-- "START exactly at place 0, END exactly when nothing remains. QA is 0"
 abbrev pub flagsFor : Bool → Bool → ℕ
 flagsFor start end = cond start START 0 + cond end END 0
 
 abbrev pub flagsAt : List ℕ → ℕ → ℕ → ℕ
 flagsAt file largest place = flagsFor (eqb place 0) (eqb (remainsAt file largest place) 0)
 
--- the frame: the offset is the place
+-- "It writes one frame"; "the offset is the place"
 unfoldable pub sentBytes : List ℕ → ℕ → ℕ → ℕ → List ℕ
 sentBytes file session largest place = frameBytes session place (flagsAt file largest place) (partAt file largest place)
 
--- 32 file empty or above 4,294,967,295 bytes
+-- 32 sender: file empty or above 4,294,967,295 bytes
 abbrev pub badFile : List ℕ → Bool
 badFile file = eqb (length file) 0 || ltb 4294967295 (length file)
 
--- 33 largest part not 1..240
+-- 33 sender: largest part not 1..240
 abbrev pub badLargest : ℕ → Bool
 badLargest largest = eqb largest 0 || ltb 240 largest
 
--- 34 place at or past the end
+-- 34 sender: place at or past the end
 abbrev pub pastEnd : List ℕ → ℕ → Bool
 pastEnd file place = leb (length file) place
 
--- 16 output shorter than needed, which is 12 and the part; room is the output's length
+-- 16 output shorter than needed: 12 and the part; room is the output's length
 abbrev pub noRoom : List ℕ → ℕ → ℕ → ℕ → Bool
 noRoom file largest place room = ltb room (length (partAt file largest place) + 12)
 
--- the order
+-- "the sender's order is 32, 33, 34, 16"
 abbrev pub sendRules : List ℕ → ℕ → ℕ → ℕ → List Rule
 sendRules file largest place room =
     32 when badFile file
@@ -60,16 +61,13 @@ sendRules file largest place room =
     ∷ 16 when noRoom file largest place room
     ∷ []
 
--- the answer where the refusal is n: with 0, for none, the frame's length and the next place
-abbrev pub sendAnswer : ℕ → List ℕ → ℕ → Sent
-sendAnswer zero bs next = Frame (length bs) next
-sendAnswer (suc n) bs next = Refused (suc n)
-
--- the answer r, and what the output holds afterwards
+-- "The sender gets file, session, largest part, place and a buffer. .. It answers the frame's length and the next place. Bytes after the
+-- frame stay": the answer r, and what the output holds afterwards
 pub record Sends (file : List ℕ) (session largest place : ℕ) (out : List ℕ) (r : Sent) (out′ : List ℕ) : Type 0 where
-  pub answer : r ≡ sendAnswer (first (sendRules file largest place (length out))) (sentBytes file session largest place) (nextPlace file largest place)
+  pub answer : r ≡ answered Refused (Frame (length (sentBytes file session largest place)) (nextPlace file largest place)) (first (sendRules file largest place (length out)))
   pub output : out′ ≡ writeOutput (first (sendRules file largest place (length out))) (sentBytes file session largest place) out
 
+-- the length and the next place
 abbrev pub toldSent : Sent → Told
 toldSent (Frame n next) = accepted (n ∷ next ∷ [])
 toldSent (Refused n) = refused n

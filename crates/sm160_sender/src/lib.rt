@@ -82,7 +82,7 @@ pub fn send(file: &[u8], session: u16, largest: usize, place: usize, out: &mut [
     }
     let part = part_at(file, largest, place);
     let next = place + part.len();
-    let remains = wire::less(file.len(), next);
+    let remains = wire::minus(file.len(), next);
     let flags = flags_for(place == 0, remains == 0);
     // It refuses nothing that was not refused above.
     sm160_frame::write_frame(session, place as u32, flags, part, out);

@@ -1,14 +1,16 @@
-// Acts 50 and 51: the reading card.
+// Acts 50 to 52: the reading card and its line.
 use crate::say;
 use card::Card;
 use card::CardRead;
 use card::read_card;
 use card::write_card;
+use card_text::put_line;
 use reading::bits;
 use reading::kind_from;
 use reading::kind_of;
 use reading::number_of;
 use reading::of_bits;
+use wire::Written;
 use wire::byte_at;
 use wire::le32_at;
 use wire::le64_at;
@@ -48,10 +50,25 @@ fn read(bytes: &[u8]) -> bool {
     }
 }
 
-pub fn answer(act: u8, numbers: &[u8], bytes: &[u8], out: &mut [u8]) -> bool {
-    if act == 50 {
-        return read(bytes);
+// The line of a refusal and, for 0, of a card.
+fn write_line(n: u8, card: &[u8], out: &mut [u8]) -> Written {
+    if n == 0 {
+        put_line(read_card(card), out)
+    } else {
+        put_line(CardRead::Refused(n), out)
     }
-    let w = write_card(card_from(numbers), out);
-    say::written(w, out)
+}
+
+pub fn answer(act: u8, numbers: &[u8], bytes: &[u8], out: &mut [u8]) -> bool {
+    match act {
+        50 => read(bytes),
+        51 => {
+            let w = write_card(card_from(numbers), out);
+            say::written(w, out)
+        }
+        _ => {
+            let w = write_line(byte_at(numbers, 0), bytes, out);
+            say::written(w, out)
+        }
+    }
 }

@@ -27,7 +27,8 @@ fn pulsar(act: u8, numbers: &[u8], bytes: &[u8], out: &mut [u8]) -> bool {
         10..=13 => frames::answer(act, numbers, bytes, out),
         14..=15 => collector::answer(act, numbers, bytes),
         20 | 22 => requests::answer(act, numbers, bytes, out),
-        _ => replies::answer(act, numbers, bytes, out),
+        21 | 23 => replies::answer(act, numbers, bytes, out),
+        _ => say::unknown(act),
     }
 }
 
@@ -35,19 +36,20 @@ fn controller(act: u8, numbers: &[u8], bytes: &[u8], out: &mut [u8]) -> bool {
     match act {
         30..=33 => envelope::answer(act, numbers, bytes, out),
         40..=42 => files::answer(act, numbers, bytes, out),
-        _ => receiver::answer(numbers, bytes, out),
+        43 => receiver::answer(numbers, bytes, out),
+        _ => say::unknown(act),
     }
 }
 
-// Answers a case: an act, its numbers of eight bytes each, and its byte strings. False where there is no such act.
+// Answers a case: an act, its numbers of eight bytes each, and its byte strings.
 fn answer(act: u8, numbers: &[u8], bytes: &[u8], out: &mut [u8]) -> bool {
     match act {
         1..=3 => ground::answer(act, numbers, bytes),
-        4..=7 => readings::answer(act, numbers, bytes),
+        4..=8 => readings::answer(act, numbers, bytes),
         10..=23 => pulsar(act, numbers, bytes, out),
         30..=43 => controller(act, numbers, bytes, out),
-        50..=51 => cards::answer(act, numbers, bytes, out),
-        _ => false,
+        50..=52 => cards::answer(act, numbers, bytes, out),
+        _ => say::unknown(act),
     }
 }
 
@@ -70,35 +72,40 @@ fn answer_into(act: u8, numbers: &[u8], bytes: &[u8], buffer: &mut [u8], n: usiz
 }
 
 // Reads one case and answers it. False where the input has ended.
-fn answer_one() -> bool {
+fn answer_one(given: &mut [u8], out: &mut [u8]) -> bool {
     let mut head = [0u8; 6];
-    if !read_part(&mut head, 6) {
+    let came = io::read_full(libc::STDIN_FILENO, &mut head);
+    if came == 0 {
         return false;
     }
     let n = byte_at(&head, 1) as usize * 8;
     let m = n + le16_at(&head, 2) as usize;
-    let mut of = io::buffer();
-    if !read_part(&mut of, m) {
-        return false;
-    }
     let k = le16_at(&head, 4) as usize;
-    let mut out = io::buffer();
-    if !read_part(&mut out, k) {
-        return false;
+    if came < 6 {
+        return say::cut_short();
+    }
+    if !read_part(given, m) {
+        return say::cut_short();
+    }
+    if !read_part(out, k) {
+        return say::cut_short();
     }
     answer_into(
         byte_at(&head, 0),
-        front(&of, n),
-        rest(front(&of, m), n),
-        &mut out,
+        front(given, n),
+        rest(front(given, m), n),
+        out,
         k,
     )
 }
 
-// A proved loop has to end, and nothing says that the input does. So the loop counts its turns down from a number that no run uses up.
+// There is room for 255 numbers and for byte strings of any length that a case can say. A proved loop has to end, and nothing says that the
+// input does. So the loop counts its turns down from a number that no run uses up.
 fn main() {
+    let mut given = [0u8; 67575];
+    let mut out = [0u8; 65535];
     let mut turns = u64::MAX;
-    while turns > 0 && answer_one() {
+    while turns > 0 && answer_one(&mut given, &mut out) {
         turns -= 1;
     }
 }

@@ -10,10 +10,10 @@ use pulsar_reply::ReplyRead;
 use wire::byte_at;
 use wire::le32_at;
 
-fn clock(d: DateTime) -> bool {
+fn clock(function: u64, d: DateTime) -> bool {
     let words = [
         0,
-        4,
+        function,
         1,
         d.year as u64,
         d.month as u64,
@@ -25,11 +25,11 @@ fn clock(d: DateTime) -> bool {
     say::numbers(&words)
 }
 
-fn archive(a: ArchiveReply, values: &[u8]) -> bool {
+fn archive(function: u64, a: ArchiveReply, values: &[u8]) -> bool {
     let f = a.first;
     let words = [
         0,
-        6,
+        function,
         a.mask as u64,
         f.year as u64,
         f.month as u64,
@@ -42,16 +42,17 @@ fn archive(a: ArchiveReply, values: &[u8]) -> bool {
 }
 
 fn reply(r: Reply, values: &[u8]) -> bool {
+    let function = pulsar_reply::reply_function(r) as u64;
     match r {
-        Reply::Error(error) => say::line(&[0, 0, error as u64], values),
-        Reply::Channels => say::line(&[0, 1], values),
-        Reply::ChannelsWritten(mask) => say::line(&[0, 2, mask as u64], values),
-        Reply::Clock(d) => clock(d),
-        Reply::NoClock => say::line(&[0, 4, 0], b""),
-        Reply::ClockSet(status) => say::line(&[0, 5, status as u64], b""),
-        Reply::Archive(a) => archive(a, values),
-        Reply::Parameter => say::line(&[0, 10], values),
-        Reply::ParameterWritten => say::line(&[0, 11], b""),
+        Reply::Error(error) => say::line(&[0, function, error as u64], values),
+        Reply::Channels => say::line(&[0, function], values),
+        Reply::ChannelsWritten(mask) => say::line(&[0, function, mask as u64], values),
+        Reply::Clock(d) => clock(function, d),
+        Reply::NoClock => say::line(&[0, function, 0], b""),
+        Reply::ClockSet(status) => say::line(&[0, function, status as u64], b""),
+        Reply::Archive(a) => archive(function, a, values),
+        Reply::Parameter => say::line(&[0, function], values),
+        Reply::ParameterWritten => say::line(&[0, function], b""),
     }
 }
 

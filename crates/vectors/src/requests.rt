@@ -12,10 +12,10 @@ use wire::byte_at;
 use wire::le16_at;
 use wire::le32_at;
 
-fn clock(d: DateTime) -> bool {
+fn clock(function: u64, d: DateTime) -> bool {
     let words = [
         0,
-        5,
+        function,
         d.year as u64,
         d.month as u64,
         d.day as u64,
@@ -26,13 +26,13 @@ fn clock(d: DateTime) -> bool {
     say::numbers(&words)
 }
 
-fn archive(a: ArchiveRequest) -> bool {
+fn archive(function: u64, a: ArchiveRequest) -> bool {
     let kind = a.kind;
     let f = a.first;
     let l = a.last;
     let words = [
         0,
-        6,
+        function,
         a.mask as u64,
         type_number(kind) as u64,
         f.year as u64,
@@ -52,14 +52,15 @@ fn archive(a: ArchiveRequest) -> bool {
 }
 
 fn request(r: Request, values: &[u8]) -> bool {
+    let function = pulsar_request::request_function(r) as u64;
     match r {
-        Request::ReadChannels(mask) => say::line(&[0, 1, mask as u64], values),
-        Request::WriteChannels(mask) => say::line(&[0, 2, mask as u64], values),
-        Request::ReadClock => say::line(&[0, 4], values),
-        Request::SetClock(d) => clock(d),
-        Request::ReadArchive(a) => archive(a),
-        Request::ReadParameter(index) => say::line(&[0, 10, index as u64], values),
-        Request::WriteParameter(index) => say::line(&[0, 11, index as u64], values),
+        Request::ReadChannels(mask) => say::line(&[0, function, mask as u64], values),
+        Request::WriteChannels(mask) => say::line(&[0, function, mask as u64], values),
+        Request::ReadClock => say::line(&[0, function], values),
+        Request::SetClock(d) => clock(function, d),
+        Request::ReadArchive(a) => archive(function, a),
+        Request::ReadParameter(index) => say::line(&[0, function, index as u64], values),
+        Request::WriteParameter(index) => say::line(&[0, function, index as u64], values),
     }
 }
 

@@ -1,7 +1,11 @@
-// An answer's line: numbers in decimal, then a byte string in hexadecimal. A line is one write; the answer is false where that fails.
+// An answer's line: numbers in decimal, then a byte string in hexadecimal; or what is wrong with the case. The answer is false where a write fails.
+use libc::STDOUT_FILENO;
 use wire::Written;
 
-// Adds a text to the first `at` bytes of a line, if it fits. Answers how long the line is then.
+// The length of a line that did not fit.
+const TOO_LONG: usize = usize::MAX;
+
+// Adds a text to the first `at` bytes of a line. Answers how long the line is then.
 fn text(line: &mut [u8], at: usize, t: &[u8]) -> usize {
     if at <= line.len() {
         if t.len() <= line.len() - at {
@@ -9,7 +13,7 @@ fn text(line: &mut [u8], at: usize, t: &[u8]) -> usize {
             return at + t.len();
         }
     }
-    at
+    TOO_LONG
 }
 
 // Numbers, each with a blank after it.
@@ -52,7 +56,10 @@ pub fn line(words: &[u64], bytes: &[u8]) -> bool {
     let n = decimal(&mut line, words);
     let m = hexadecimal(&mut line, n, bytes);
     let k = text(&mut line, m, b"\n");
-    io::write_all(libc::STDOUT_FILENO, wire::front(&line, k))
+    if k == TOO_LONG {
+        return io::write_all(STDOUT_FILENO, b"line too long\n");
+    }
+    io::write_all(STDOUT_FILENO, wire::front(&line, k))
 }
 
 // Numbers alone.
@@ -71,4 +78,16 @@ pub fn written(w: Written, out: &[u8]) -> bool {
         Written::Length(n) => line(&[0, n as u64], out),
         Written::Refused(n) => line(&[n as u64], out),
     }
+}
+
+pub fn unknown(act: u8) -> bool {
+    io::write_all(STDOUT_FILENO, b"unknown act ")
+        && io::print_decimal(STDOUT_FILENO, act as u64)
+        && io::write_all(STDOUT_FILENO, b"\n")
+}
+
+// The input ended within a case, so there is no next one.
+pub fn cut_short() -> bool {
+    io::write_all(STDOUT_FILENO, b"case cut short\n");
+    false
 }

@@ -1,7 +1,7 @@
 -- What holds of each element of a list: of a part, of the whole reversed, and from what holds at each place.
 -- Assumes nothing.
 use mathlib.Core.List.{List, [], _∷_, _++_, reverse, reverseAux}
-use Prim.Native.Nat.{ℕ, zero, suc, _<_}
+use Prim.Native.Nat.{ℕ, zero, suc}
 use lib.ListN.{getD, take, drop}
 use Rattle.wire.specs.Each.{Each}
 

@@ -1,7 +1,7 @@
 -- The bytes at a place: one field after another is one field, and a field that lies within is what stands there.
 -- Assumes nothing.
-use mathlib.Core.Path.{_≡_, refl, sym, ap, ap₂, _∙_}
-use mathlib.Core.List.{List, [], _∷_, _++_}
+use mathlib.Core.Path.{_≡_, refl, sym, ap, _∙_}
+use mathlib.Core.List.{List, _∷_, _++_}
 use Prim.Native.Nat.{ℕ, zero, suc, _+_, _^_, _≤_, _<_}
 use native.Mathlib.Nat.{zero-add, add-zero, suc-add}
 use native.Mathlib.Numerals.{add-one}
@@ -9,7 +9,7 @@ use native.Mathlib.Omega.{arith}
 use lib.ListN.{length, take, drop, getD, length-append}
 use lib.Seq.{drop-cons, drop-at, take-at}
 use Rattle.wire.specs.Numbers.{field, le, ofLe}
-use Rattle.wire.specs.Each.{Each, Bytes}
+use Rattle.wire.specs.Each.{Bytes}
 use Rattle.wire.proofs.Each.{getD-each}
 use Rattle.wire.proofs.Numbers.{length-le, ofLe-le, le-ofLe}
 

@@ -5,5 +5,6 @@ pub mod Fields
 pub mod Turns
 pub mod Writing
 pub mod Refusal
+pub mod Answer
 pub mod Writes
 pub mod Unique

@@ -1,15 +1,15 @@
 -- A number written and read again is the number, and bytes read and written again are the bytes: once over the base and the width,
 -- then at bytes either way round and at decimal digits.
 -- Assumes nothing.
-use mathlib.Core.Path.{_≡_, refl, sym, ap, ap₂, _∙_, subst}
+use mathlib.Core.Path.{_≡_, refl, sym, ap, ap₂, _∙_}
 use mathlib.Core.Bool.{Bool, true, false, _&&_}
-use mathlib.Core.List.{List, [], _∷_, _++_, map, reverse, reverse-reverse}
-use Prim.Native.Nat.{ℕ, zero, suc, _+_, _*_, _/_, _%_, _^_, _<_, _≤_}
+use mathlib.Core.List.{List, [], _∷_, map, reverse, reverse-reverse}
+use Prim.Native.Nat.{ℕ, zero, suc, _+_, _*_, _/_, _%_, _^_, _<_}
 use native.Mathlib.Nat.{mod-lt, mod-eq-of-lt, div-add-mod, add-mul-mod-self-left, add-mul-div-left, div-lt-iff-lt-mul, pow-suc, pow-zero, add-comm, mul-comm, zero-add, div-eq-of-lt}
 use native.Mathlib.Omega.{arith}
 use lib.Arith.{lt-one, digits-lt}
 use lib.Dec.{T, ltb, lit<, ltb→lt, lt→ltb}
-use lib.ListN.{length, getD, length-reverse, length-map}
+use lib.ListN.{length, length-reverse, length-map}
 use Rattle.wire.specs.Numbers.{digits, number, le, ofLe, be, ofBe, bcdByte, ofBcdByte, isBcdByte, bcd, ofBcd, isBcd}
 use Rattle.wire.specs.Each.{Each, Bytes}
 use Rattle.wire.proofs.Each.{each-reverse}

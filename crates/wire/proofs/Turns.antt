@@ -1,9 +1,9 @@
 -- A turn of each loop that reads a number or stores one, over the width.
 -- Assumes nothing.
-use mathlib.Core.Path.{_≡_, refl, sym, ap, ap₂, _∙_, subst}
-use mathlib.Core.List.{List, [], _∷_, _++_}
-use Prim.Native.Nat.{ℕ, zero, suc, _+_, _-_, _*_, _/_, _%_, _^_, _<_, _≤_}
-use native.Mathlib.Nat.{pow-suc, pow-le-pow-right, sub-self, pow-zero, zero-add, add-zero}
+use mathlib.Core.Path.{_≡_, refl, sym, ap, ap₂, _∙_}
+use mathlib.Core.List.{List, _∷_}
+use Prim.Native.Nat.{ℕ, zero, suc, _+_, _-_, _*_, _^_, _<_, _≤_}
+use native.Mathlib.Nat.{pow-suc, pow-le-pow-right, sub-self, pow-zero, add-zero}
 use native.Mathlib.Numerals.{add-one}
 use native.Mathlib.Omega.{arith}
 use lib.Arith.{digits-lt}
@@ -12,7 +12,7 @@ use mathlib.Core.Bool.{Bool, true, false}
 use borrow.Author.Tests.{ltb-true, ltb-false}
 use lib.ListN.{length, getD, drop, drop-of-length-le, List·getD-eq-default}
 use lib.Seq.{getD-drop, drop-cons}
-use Rattle.wire.specs.Numbers.{digits, number, le, ofLe, field}
+use Rattle.wire.specs.Numbers.{number, ofLe, field}
 
 -- the bytes of a part from its beginning are the bytes of the whole from the part's place
 pub field-drop : (s : List ℕ) (at i w : ℕ) → field (drop at s) i w ≡ field s (at + i) w

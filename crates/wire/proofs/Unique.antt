@@ -3,7 +3,7 @@
 use mathlib.Core.Path.{sym, _∙_}
 use denote.Ref.{now}
 use Rattle.wire.specs.Unique.{Unique}
-use Rattle.wire.proofs.less.Reads as less
+use Rattle.wire.proofs.minus.Reads as minus
 use Rattle.wire.proofs.front.Reads as front
 use Rattle.wire.proofs.rest.Reads as rest
 use Rattle.wire.proofs.byte_at.Reads as byte-at
@@ -20,8 +20,8 @@ use Rattle.wire.proofs.put_le32.Reads as put-le32
 use Rattle.wire.proofs.put_be16.Reads as put-be16
 use Rattle.wire.proofs.put_bcd32.Reads as put-bcd32
 
-pub less-unique : Unique less.Post (λ κs r s. r)
-less-unique κs a r r′ s s′ e e′ = e ∙ sym e′
+pub minus-unique : Unique minus.Post (λ κs r s. r)
+minus-unique κs a r r′ s s′ e e′ = e ∙ sym e′
 
 pub front-unique : Unique front.Post (λ κs r s. now r)
 front-unique κs a r r′ s s′ e e′ = e ∙ sym e′

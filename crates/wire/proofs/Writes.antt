@@ -4,11 +4,15 @@ use mathlib.Core.Path.{_≡_, refl, sym, ap, ap₂, _∙_, subst}
 use mathlib.Core.List.{List}
 use Prim.Native.Nat.{ℕ, zero, suc}
 use native.Mathlib.Omega.{arith}
-use lib.ListN.{length}
+use lib.Dec.{T}
+use lib.ListN.{length, take, drop}
+use lib.Seq.{take-append-seam}
 use Rattle.wire.specs.Numbers.{over}
+use Rattle.wire.specs.Refusal.{Rule, first, numbered, FirstInOrder}
 use Rattle.wire.specs.Writes.{Writes, writeAnswer, writeOutput, toldWritten}
 use Rattle.wire.specs.declared.Written.{Written}
 use Rattle.wire.specs.declared.Written.the-variants.{Length, Refused}
+use Rattle.wire.proofs.Answer.{answer-first}
 
 module _ (bs out : List ℕ) where
   -- a refusal k + 1, which is the first
@@ -42,7 +46,20 @@ wrote (suc n) bs out r out′ k w e =
     let z : _≡_ {A = ℕ} 0 1 = cc in
     absurd (omega arith)
 
--- the number that is told is that of the refusal
-pub told-written : (n : ℕ) (bs out : List ℕ) (r : Written) (out′ : List ℕ) → Writes n bs out r out′ → n ≡ toldWritten r .number
-told-written zero bs out r out′ w = ap (λ (x : Written). toldWritten x .number) (sym (w .answer))
-told-written (suc n) bs out r out′ w = ap (λ (x : Written). toldWritten x .number) (sym (w .answer))
+-- and then what stands in the first k bytes of the output is what was to be written
+pub wrote-front : (n : ℕ) (bs out : List ℕ) (r : Written) (out′ : List ℕ) (k : ℕ) → Writes n bs out r out′ → r ≡ Length k → (n ≡ 0) × (take k out′ ≡ bs)
+unfolding over
+wrote-front n bs out r out′ k w e =
+    let o = wrote n bs out r out′ k w e in
+    (o .0, ap₂ (λ (j : ℕ) (l : List ℕ). take j l) (o .1) (o .2) ∙ take-append-seam bs (drop (length bs) out))
+
+-- where nothing is refused, all of it is written
+pub wrote-all : (n : ℕ) (bs out : List ℕ) (r : Written) (out′ : List ℕ) → Writes n bs out r out′ → n ≡ 0 → (r ≡ Length (length bs)) × (out′ ≡ over out bs)
+wrote-all n bs out r out′ w z = (w .answer ∙ ap (λ (m : ℕ). writeAnswer m bs) z, w .output ∙ ap (λ (m : ℕ). writeOutput m bs out) z)
+
+-- demand 1 of the number that a writer tells
+pub written-first : (rules : List Rule) (bs out : List ℕ) (r : Written) (out′ : List ℕ) → T (numbered rules) → Writes (first rules) bs out r out′
+    → FirstInOrder rules (toldWritten r .number)
+written-first rules bs out r out′ t w =
+    subst (λ (x : Written). FirstInOrder rules (toldWritten x .number)) (sym (w .answer))
+    (answer-first Refused (Length (length bs)) (λ x. toldWritten x .number) (λ n. refl) rules t refl)

@@ -1,7 +1,7 @@
 -- Numbers as bytes: least significant first, most significant first, and two decimal digits a byte; and the bytes at a place.
 -- Assumes nothing.
 use Prim.Native.Nat.{ℕ, zero, suc, _+_, _*_, _/_, _%_}
-use mathlib.Core.Bool.{Bool, true, false, _&&_}
+use mathlib.Core.Bool.{Bool, true, _&&_}
 use mathlib.Core.List.{List, [], _∷_, _++_, map, reverse}
 use lib.Dec.{ltb}
 use lib.ListN.{length, getD, drop}

@@ -9,6 +9,7 @@ pub data Rule : Type 0 where
   _when_ : ℕ → Bool → Rule
 
 infix 80 _when_
+-- the library's `cond` for numbers, but shut: so a proof's `search` sees the rules one by one (proofs/Refusal: `hit`, `skip`)
 unfoldable pub pick : Bool → ℕ → ℕ → ℕ
 pick true a b = a
 pick false a b = b

@@ -12,14 +12,18 @@ pub record Told : Type 0 where
 abbrev pub accepted : List ℕ → Told
 accepted values = record { number = 0; values = values }
 
+-- a refusal may come with values too
+abbrev pub refusedWith : ℕ → List ℕ → Told
+refusedWith n values = record { number = n; values = values }
+
 abbrev pub refused : ℕ → Told
-refused n = record { number = n; values = [] }
+refused n = refusedWith n []
 
 -- ---- a table of edges: what is told, and what the paper says; it holds where each does
 pub data Edge : Type 0 where
   _gives_ : Told → Told → Edge
 
 infix 80 _gives_
-abbrev pub Holds : List Edge → Type 0
-Holds [] = Unit {0}
-Holds ((told gives said) ∷ es) = (told ≡ said) × Holds es
+abbrev pub AllHold : List Edge → Type 0
+AllHold [] = Unit {0}
+AllHold ((told gives said) ∷ es) = (told ≡ said) × AllHold es

@@ -13,7 +13,7 @@ pub enum Written {
 }
 
 // a - b, and 0 where that is below 0.
-pub fn less(a: usize, b: usize) -> usize
+pub fn minus(a: usize, b: usize) -> usize
     ensures { λ r. ⌜ r ≡ a - b ⌝ }
 {
     if b <= a { a - b } else { 0 }
@@ -39,12 +39,6 @@ pub fn byte_at(s: &[u8], at: usize) -> u8
     if at < s.len() { s[at] } else { 0 }
 }
 
-fn wide(b: u8) -> u64
-    ensures { λ r. ⌜ r ≡ b ⌝ }
-{
-    b as u64
-}
-
 // The first w bytes, least significant first.
 fn le_of(s: &[u8], w: usize) -> u64
     requires { ⌜ w ≤ 8 ⌝ }
@@ -54,7 +48,7 @@ fn le_of(s: &[u8], w: usize) -> u64
     let mut i = w;
     while 0 < i {
         i -= 1;
-        v = v * 256 + wide(byte_at(s, i));
+        v = v * 256 + byte_at(s, i) as u64;
     }
     v
 }
@@ -77,17 +71,11 @@ pub fn le64_at(s: &[u8], at: usize) -> u64
     le_of(rest(s, at), 8)
 }
 
-fn wide16(b: u8) -> u16
-    ensures { λ r. ⌜ r ≡ b ⌝ }
-{
-    b as u16
-}
-
 pub fn be16_at(s: &[u8], at: usize) -> u16
     ensures { λ r. ⌜ r ≡ ofBe (field (now (s .entry)) at 2) ⌝ }
 {
     let p = rest(s, at);
-    wide16(byte_at(p, 0)) * 256 + wide16(byte_at(p, 1))
+    byte_at(p, 0) as u16 * 256 + byte_at(p, 1) as u16
 }
 
 fn of_bcd(b: u8) -> u32
@@ -133,7 +121,7 @@ pub fn put(out: &mut [u8], at: usize, b: u8)
 pub fn put_all(out: &mut [u8], at: usize, src: &[u8])
     ensures { λ _. ⌜ now (out .exit) ≡ sets (now (out .entry)) at (now (src .entry)) ⌝ }
 {
-    let part = front(src, less(out.len(), at));
+    let part = front(src, minus(out.len(), at));
     let mut i = 0;
     while i < part.len() {
         out[at + i] = part[i];

@@ -3,9 +3,9 @@
 use mathlib.Core.Path.{_≡_, refl, sym, ap₂, ap, _∙_}
 use Prim.Native.Nat.{ℕ, _+_, _-_, _*_, _≤_}
 use native.Mathlib.Omega.{arith}
-use lib.ListN.{take, getD}
+use lib.ListN.{take}
 use Rattle.bits.specs.Fields.{total}
-use Rattle.bits.proofs.Turns.{total-more}
+use Rattle.bits.proofs.Read.{total-more}
 use borrow.Author.Needs.{needs}
 use Rattle.bits.proofs.place_of.Statement.{statement}
 use Rattle.bits.proofs.place_of.Tie as tie
@@ -20,31 +20,13 @@ loop-holds : tie.Need-loop-holds Inv-loop μ-loop
 unfolding total
 loop-holds c = (omega arith, refl, omega arith)
 
-wide-requires : tie.Need-wide-requires Inv-loop μ-loop
-wide-requires c κs = search needs
-
-byte-at-requires : tie.Need-byte-at-requires Inv-loop μ-loop
-byte-at-requires c κs = search needs
-
-wide-requires-2 : tie.Need-wide-requires-2 Inv-loop μ-loop
-wide-requires-2 c κs = search needs
-
 add-at : tie.Need-add-at Inv-loop μ-loop
-add-at c = omega (arith, c .wide2 .ensures, c .before .byte-at .ok, c .before .before .before .before .loop .inv .2)
-
-add-i : tie.Need-add-i Inv-loop μ-loop
-add-i c = omega arith
-
-loop-less : tie.Need-loop-less Inv-loop μ-loop
-loop-less c = omega arith
+add-at c = omega (arith, c .byte-at .ok, c .before .before .loop .inv .2)
 
 loop-again : tie.Need-loop-again Inv-loop μ-loop
 loop-again c =
-    let v = c .before .before .before .before .loop .inv in
-    let a = c .before .before .before .before .before .before .args in
-    let i = c .before .before .before .before .loop .i in
-    let read : c .wide2 .result ≡ getD (a .widths .now) i 0 = c .wide2 .ensures ∙ c .before .byte-at .ensures ∙ ap (λ (k : ℕ). getD (a .widths .now) k 0) (c .before .before .wide .ensures) in
-    (omega arith, ap₂ (λ (x y : ℕ). x + y) (v .1) read ∙ sym (total-more (a .widths .now) i), omega (arith, c .wide2 .ensures, c .before .byte-at .ok, v .2))
+    let v = c .before .before .loop .inv in
+    (omega arith, ap₂ (λ (x y : ℕ). x + y) (v .1) (c .byte-at .ensures) ∙ sym (total-more _ (c .before .before .loop .i)), omega (arith, c .byte-at .ok, v .2))
 
 returns : tie.Need-returns Inv-loop μ-loop
 returns c =
@@ -55,15 +37,5 @@ returns c =
 pub place-of-spec : {M : Type 1} → statement M
 place-of-spec =
     tie.close
-    (tie.spec
-    Inv-loop
-    μ-loop
-    loop-holds
-    wide-requires
-    byte-at-requires
-    wide-requires-2
-    add-at
-    add-i
-    loop-less
-    loop-again
-    returns)
+    (tie.spec Inv-loop μ-loop loop-holds (λ c. search needs) (λ c κs. search needs) (λ c. search needs) add-at (λ c. omega arith)
+    (λ c. omega arith) loop-again returns)

@@ -8,24 +8,6 @@ use borrow.Author.Needs.{needs}
 use Rattle.card_text.proofs.add_line.Statement.{statement}
 use Rattle.card_text.proofs.add_line.Tie as tie
 
-slice-aggregate-make-line : tie.Need-slice-aggregate-make-line
-slice-aggregate-make-line c = search needs
-
-make-line-requires : tie.Need-make-line-requires
-make-line-requires c κs = search needs
-
-slice-aggregate-front : tie.Need-slice-aggregate-front
-slice-aggregate-front c = search needs
-
-front-requires : tie.Need-front-requires
-front-requires c κs = search needs
-
-put-all-requires : tie.Need-put-all-requires
-put-all-requires c κs = search needs
-
-same-length : tie.Need-same-length
-same-length c = search needs
-
 returns : tie.Need-returns
 returns c =
     let a = c .before .before .before .before .before .before .before .before .before .before .args in
@@ -35,11 +17,5 @@ returns c =
 pub add-line-spec : {M : Type 1} → statement M
 add-line-spec =
     tie.close
-    (tie.spec
-    slice-aggregate-make-line
-    make-line-requires
-    slice-aggregate-front
-    front-requires
-    put-all-requires
-    same-length
-    returns)
+    (tie.spec (λ c. search needs) (λ c κs. search needs) (λ c. search needs) (λ c κs. search needs) (λ c κs. search needs)
+    (λ c. search needs) returns)

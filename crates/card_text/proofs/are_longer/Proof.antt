@@ -6,52 +6,32 @@ use mathlib.Core.Path.{ap, _∙_}
 use lib.ListN.{length}
 use Rattle.card.specs.declared.CardRead.{CardRead}
 use Rattle.card_text.specs.Line.{lineOf}
+use Rattle.card_text.specs.Lines.{cardText}
 use Rattle.card_text.proofs.Lines.{Room, room-begun, room-out, room-less, room-in}
 use borrow.Author.Needs.{needs}
 use Rattle.card_text.proofs.are_longer.Statement.{statement}
 use Rattle.card_text.proofs.are_longer.Tie as tie
 
 abbrev Inv-loop : tie.InvT-loop
-Inv-loop cards n room left₀ i₀ left i = Room cards n room i left
+Inv-loop cards n room left₀ i₀ left i = Room 17 cardText cards n room i left
 
 abbrev μ-loop : tie.MeasureT-loop
 μ-loop cards n room left₀ i₀ left i = n - i
 
 loop-holds : tie.Need-loop-holds Inv-loop μ-loop
-loop-holds c = room-begun _ _ _
-
-read-at-requires : tie.Need-read-at-requires Inv-loop μ-loop
-read-at-requires c κs = search needs
-
-line-length-requires : tie.Need-line-length-requires Inv-loop μ-loop
-line-length-requires c κs = search needs
+loop-holds c = room-begun _ _ _ _ _
 
 returns : tie.Need-returns Inv-loop μ-loop
-returns c = room-out _ _ _ _ _ (c .before .before .before .before .loop .inv) (c .before .before .before .loop-test .taken) _ (c .before .line-length .ensures ∙ ap (λ (r : CardRead). length (lineOf r)) (c .before .before .read-at .ensures)) (c .if1 .taken)
-
-add-i : tie.Need-add-i Inv-loop μ-loop
-add-i c = omega arith
-
-loop-less : tie.Need-loop-less Inv-loop μ-loop
-loop-less c = omega arith
+returns c = room-out _ _ _ _ _ _ _ (c .before .before .before .before .loop .inv) (c .before .before .before .loop-test .taken) _ (c .before .line-length .ensures ∙ ap (λ (r : CardRead). length (lineOf r)) (c .before .before .read-at .ensures)) (c .if1 .taken)
 
 loop-again : tie.Need-loop-again Inv-loop μ-loop
-loop-again c = room-less _ _ _ _ _ (c .before .before .before .before .loop .inv) (c .before .before .before .loop-test .taken) _ (c .before .line-length .ensures ∙ ap (λ (r : CardRead). length (lineOf r)) (c .before .before .read-at .ensures)) (c .if1 .left)
+loop-again c = room-less _ _ _ _ _ _ _ (c .before .before .before .before .loop .inv) (c .before .before .before .loop-test .taken) _ (c .before .line-length .ensures ∙ ap (λ (r : CardRead). length (lineOf r)) (c .before .before .read-at .ensures)) (c .if1 .left)
 
 returns-2 : tie.Need-returns-2 Inv-loop μ-loop
-returns-2 c = room-in _ _ _ _ _ (c .before .loop .inv) (c .loop-test .left)
+returns-2 c = room-in _ _ _ _ _ _ _ (c .before .loop .inv) (c .loop-test .left)
 
 pub are-longer-spec : {M : Type 1} → statement M
 are-longer-spec =
     tie.close
-    (tie.spec
-    Inv-loop
-    μ-loop
-    loop-holds
-    read-at-requires
-    line-length-requires
-    returns
-    add-i
-    loop-less
-    loop-again
-    returns-2)
+    (tie.spec Inv-loop μ-loop loop-holds (λ c κs. search needs) (λ c κs. search needs) returns (λ c. omega arith) (λ c. omega arith)
+    loop-again returns-2)

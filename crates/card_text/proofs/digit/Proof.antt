@@ -5,15 +5,9 @@ use borrow.Author.Needs.{needs}
 use Rattle.card_text.proofs.digit.Statement.{statement}
 use Rattle.card_text.proofs.digit.Tie as tie
 
-slice-aggregate-byte-at : tie.Need-slice-aggregate-byte-at
-slice-aggregate-byte-at c = search needs
-
-byte-at-requires : tie.Need-byte-at-requires
-byte-at-requires c κs = search needs
-
 returns : tie.Need-returns
 unfolding digit ascii
 returns c = c .byte-at .ensures
 
 pub digit-spec : {M : Type 1} → statement M
-digit-spec = tie.close (tie.spec slice-aggregate-byte-at byte-at-requires returns)
+digit-spec = tie.close (tie.spec (λ c. search needs) (λ c κs. search needs) returns)

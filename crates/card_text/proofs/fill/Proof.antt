@@ -8,7 +8,7 @@ use lib.Seq.{sets, length-sets}
 use Rattle.card.specs.declared.CardRead.{CardRead}
 use Rattle.card_text.specs.Text.{Stored}
 use Rattle.card_text.specs.Line.{lineOf}
-use Rattle.card_text.specs.Lines.{linesOf}
+use Rattle.card_text.specs.Lines.{cardText, linesOf}
 use Rattle.card_text.proofs.Text.{stored-as}
 use Rattle.card_text.proofs.Lines.{stored-none, stored-room, stored-next}
 use borrow.Author.Needs.{needs}
@@ -22,28 +22,19 @@ abbrev μ-loop : tie.MeasureT-loop
 μ-loop out₀ cards n at₀ i₀ out at i = n - i
 
 loop-holds : tie.Need-loop-holds Inv-loop μ-loop
-loop-holds c = (omega arith, stored-none _ _)
+loop-holds c = (omega arith, stored-none 17 cardText _ _)
 
 read-at-requires : tie.Need-read-at-requires Inv-loop μ-loop
 read-at-requires c κs = omega (arith, c .before .before .before .before .before .pre .0)
 
-add-line-requires : tie.Need-add-line-requires Inv-loop μ-loop
-add-line-requires c κs = search needs
-
 add-at : tie.Need-add-at Inv-loop μ-loop
-add-at c = omega (arith, stored-room _ _ _ _ _ _ (c .before .before .before .before .before .before .loop .inv .1) (c .before .before .before .before .before .loop-test .taken) _ (c .before .before .add-line .ensures .1 ∙ ap (λ (r : CardRead). length (lineOf r)) (c .before .before .before .read-at .ensures)) (c .before .before .before .before .before .before .before .before .before .pre .1))
-
-add-i : tie.Need-add-i Inv-loop μ-loop
-add-i c = omega arith
-
-loop-less : tie.Need-loop-less Inv-loop μ-loop
-loop-less c = omega arith
+add-at c = omega (arith, stored-room 17 cardText _ _ _ _ _ _ (c .before .before .before .before .before .before .loop .inv .1) (c .before .before .before .before .before .loop-test .taken) _ (c .before .before .add-line .ensures .1 ∙ ap (λ (r : CardRead). length (lineOf r)) (c .before .before .before .read-at .ensures)) (c .before .before .before .before .before .before .before .before .before .pre .1))
 
 loop-again : tie.Need-loop-again Inv-loop μ-loop
 loop-again c =
     let at-loop = c .before .before .before .before .before .before .loop in (
       omega arith,
-      stored-next _ _ _ _ _ _ (at-loop .inv .1) (c .before .before .before .before .before .loop-test .taken) _ (c .before .before .add-line .ensures .1 ∙ ap (λ (r : CardRead). length (lineOf r)) (c .before .before .before .read-at .ensures))
+      stored-next 17 cardText _ _ _ _ _ _ (at-loop .inv .1) (c .before .before .before .before .before .loop-test .taken) _ (c .before .before .add-line .ensures .1 ∙ ap (λ (r : CardRead). length (lineOf r)) (c .before .before .before .read-at .ensures))
           _ (c .before .before .add-line .ensures .0 ∙ ap (λ (r : CardRead). sets (at-loop .out) (at-loop .at) (lineOf r)) (c .before .before .before .read-at .ensures)),
     )
 
@@ -59,15 +50,5 @@ returns c =
 pub fill-spec : {M : Type 1} → statement M
 fill-spec =
     tie.close
-    (tie.spec
-    Inv-loop
-    μ-loop
-    loop-holds
-    read-at-requires
-    add-line-requires
-    add-at
-    add-i
-    loop-less
-    loop-again
-    same-length
-    returns)
+    (tie.spec Inv-loop μ-loop loop-holds read-at-requires (λ c κs. search needs) add-at (λ c. omega arith) (λ c. omega arith) loop-again
+    same-length returns)

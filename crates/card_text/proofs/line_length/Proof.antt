@@ -10,24 +10,6 @@ use borrow.Author.Needs.{needs}
 use Rattle.card_text.proofs.line_length.Statement.{statement}
 use Rattle.card_text.proofs.line_length.Tie as tie
 
-enum-known-read : tie.Need-enum-known-read
-enum-known-read c = search needs
-
-plain-width-requires : tie.Need-plain-width-requires
-plain-width-requires c κs = search needs
-
-add-result : tie.Need-add-result
-add-result c = search needs
-
-enum-known-read-2 : tie.Need-enum-known-read-2
-enum-known-read-2 c = search needs
-
-plain-width-requires-2 : tie.Need-plain-width-requires-2
-plain-width-requires-2 c κs = search needs
-
-add-result-2 : tie.Need-add-result-2
-add-result-2 c = search needs
-
 returns : tie.Need-returns
 returns c = ap (λ (n : ℕ). 49 + n) (c .plain-width .ensures .0) ∙ sym (length-card _) ∙ sym (ap (λ (r : CardRead). length (lineOf r)) (c .before .before .read .given .1))
 
@@ -37,12 +19,5 @@ returns-2 c = ap (λ (n : ℕ). 9 + n) (c .plain-width2 .ensures .0) ∙ sym (le
 pub line-length-spec : {M : Type 1} → statement M
 line-length-spec =
     tie.close
-    (tie.spec
-    enum-known-read
-    plain-width-requires
-    add-result
-    enum-known-read-2
-    plain-width-requires-2
-    add-result-2
-    returns
-    returns-2)
+    (tie.spec (λ c. search needs) (λ c κs. search needs) (λ c. search needs) (λ c. search needs) (λ c κs. search needs) (λ c. search needs)
+    returns returns-2)

@@ -17,9 +17,6 @@ abbrev μ-loop : tie.MeasureT-loop
 loop-holds : tie.Need-loop-holds Inv-loop μ-loop
 loop-holds c = left-begun _ _ _ _ _
 
-sub-i : tie.Need-sub-i Inv-loop μ-loop
-sub-i c = omega arith
-
 add-put : tie.Need-add-put Inv-loop μ-loop
 add-put c = omega (arith, c .before .before .before .before .pre .0, c .before .before .before .before .pre .3, c .before .before .loop .inv .within)
 
@@ -29,14 +26,8 @@ rem-digit c = c .before .before .before .before .pre .1
 digit-requires : tie.Need-digit-requires Inv-loop μ-loop
 digit-requires c κs = lt-of-lt-of-le (mod-lt _ (c .before .before .before .before .pre .1)) (c .before .before .before .before .pre .2)
 
-put-requires : tie.Need-put-requires Inv-loop μ-loop
-put-requires c κs = search needs
-
 div-left : tie.Need-div-left Inv-loop μ-loop
 div-left c = c .before .before .before .before .before .before .before .before .pre .1
-
-loop-less : tie.Need-loop-less Inv-loop μ-loop
-loop-less c = omega arith
 
 loop-again : tie.Need-loop-again Inv-loop μ-loop
 loop-again c = rw (c .before .before .put .ensures) (left-less _ _ _ _ _ _ _ _ (c .before .before .before .before .before .before .loop .inv) (c .before .before .before .before .before .loop-test .taken) _ _ refl (c .before .before .before .digit .ensures))
@@ -50,17 +41,5 @@ returns c = left-none _ _ _ _ _ _ _ _ (c .before .loop .inv) (c .loop-test .left
 pub put-number-spec : {M : Type 1} → statement M
 put-number-spec =
     tie.close
-    (tie.spec
-    Inv-loop
-    μ-loop
-    loop-holds
-    sub-i
-    add-put
-    rem-digit
-    digit-requires
-    put-requires
-    div-left
-    loop-less
-    loop-again
-    same-length
-    returns)
+    (tie.spec Inv-loop μ-loop loop-holds (λ c. omega arith) add-put rem-digit digit-requires (λ c κs. search needs) div-left
+    (λ c. omega arith) loop-again same-length returns)

@@ -8,20 +8,8 @@ use borrow.Author.Needs.{needs}
 use Rattle.card_text.proofs.put_text.Statement.{statement}
 use Rattle.card_text.proofs.put_text.Tie as tie
 
-too-small-requires : tie.Need-too-small-requires
-too-small-requires c κs = search needs
-
-same-length : tie.Need-same-length
-same-length c = search needs
-
 returns : tie.Need-returns
 returns c = writes-refused _ _ 15 _ (hit _ _ _ _ (c .before .too-small .ensures) (c .if1 .taken))
-
-put-all-requires : tie.Need-put-all-requires
-put-all-requires c κs = search needs
-
-same-length-2 : tie.Need-same-length-2
-same-length-2 c = search needs
 
 returns-2 : tie.Need-returns-2
 returns-2 c =
@@ -31,5 +19,4 @@ returns-2 c =
 
 pub put-text-spec : {M : Type 1} → statement M
 put-text-spec =
-    tie.close
-    (tie.spec too-small-requires same-length returns put-all-requires same-length-2 returns-2)
+    tie.close (tie.spec (λ c κs. search needs) (λ c. search needs) returns (λ c κs. search needs) (λ c. search needs) returns-2)

@@ -13,48 +13,14 @@ use borrow.Author.Needs.{needs}
 use Rattle.card_text.proofs.put_time.Statement.{statement}
 use Rattle.card_text.proofs.put_time.Tie as tie
 
-wide-requires : tie.Need-wide-requires
-wide-requires c κs = search needs
-
-add-put-field : tie.Need-add-put-field
-add-put-field c = search needs
-
-put-field-requires : tie.Need-put-field-requires
-put-field-requires c κs = search needs
-
-wide-requires-2 : tie.Need-wide-requires-2
-wide-requires-2 c κs = search needs
-
-put-field-requires-2 : tie.Need-put-field-requires-2
-put-field-requires-2 c κs = search needs
-
-wide-requires-3 : tie.Need-wide-requires-3
-wide-requires-3 c κs = search needs
-
-put-field-requires-3 : tie.Need-put-field-requires-3
-put-field-requires-3 c κs = search needs
-
-wide-requires-4 : tie.Need-wide-requires-4
-wide-requires-4 c κs = search needs
-
-put-field-requires-4 : tie.Need-put-field-requires-4
-put-field-requires-4 c κs = search needs
-
-wide-requires-5 : tie.Need-wide-requires-5
-wide-requires-5 c κs = search needs
-
 put-field-requires-5 : tie.Need-put-field-requires-5
-put-field-requires-5 c κs = search needs
-
-wide-requires-6 : tie.Need-wide-requires-6
-wide-requires-6 c κs = search needs
+put-field-requires-5 c κs = (omega (arith, c .before .before .before .before .before .before .before .before .before .before .before .before .before .before .before .before .before .before .before .before .before .before .before .pre, c .before .before .before .before .put-field4 .ensures .1, c .before .before .before .before .before .before .before .before .before .put-field3 .ensures .1, c .before .before .before .before .before .before .before .before .before .before .before .before .before .before .put-field2 .ensures .1, c .before .before .before .before .before .before .before .before .before .before .before .before .before .before .before .before .before .before .before .put-field .ensures .1), omega arith, omega arith, omega arith)
 
 put-field-requires-6 : tie.Need-put-field-requires-6
 put-field-requires-6 c κs = (omega (arith, c .before .before .before .before .before .before .before .before .before .before .before .before .before .before .before .before .before .before .before .before .before .before .before .before .before .before .before .before .pre, c .before .before .before .before .put-field5 .ensures .1, c .before .before .before .before .before .before .before .before .before .put-field4 .ensures .1, c .before .before .before .before .before .before .before .before .before .before .before .before .before .before .put-field3 .ensures .1, c .before .before .before .before .before .before .before .before .before .before .before .before .before .before .before .before .before .before .before .put-field2 .ensures .1, c .before .before .before .before .before .before .before .before .before .before .before .before .before .before .before .before .before .before .before .before .before .before .before .before .put-field .ensures .1), omega arith, omega arith, omega arith)
 
 -- the whole text, piece after piece
-whole : (c : tie.After-slice-known7)
-    → Stored (c .before .before .before .before .before .before .before .before .before .before .before .before .before .before .before .before .before .before .before .before .before .before .before .before .before .before .before .before .before .before .before .args .out .now) (c .before .before .before .before .before .before .before .before .before .before .before .before .before .before .before .before .before .before .before .before .before .before .before .before .before .before .before .before .before .before .before .args .at) (timeText (c .before .before .before .before .before .before .before .before .before .before .before .before .before .before .before .before .before .before .before .before .before .before .before .before .before .before .before .before .before .before .before .args .time) ++ ascii ";") (c .before .before .put-field6 .last .0) (c .before .before .put-field6 .result)
+whole : (c : tie.After-slice-known7) → Stored (c .before .before .before .before .before .before .before .before .before .before .before .before .before .before .before .before .before .before .before .before .before .before .before .before .before .before .before .before .before .before .before .args .out .now) (c .before .before .before .before .before .before .before .before .before .before .before .before .before .before .before .before .before .before .before .before .before .before .before .before .before .before .before .before .before .before .before .args .at) (timeText (c .before .before .before .before .before .before .before .before .before .before .before .before .before .before .before .before .before .before .before .before .before .before .before .before .before .before .before .before .before .before .before .args .time) ++ ascii ";") (c .before .before .put-field6 .last .0) (c .before .before .put-field6 .result)
 whole c =
     let second = c .before .before in
     let minute = second .before .before .before .before .before in
@@ -62,19 +28,11 @@ whole c =
     let day = hour .before .before .before .before .before in
     let month = day .before .before .before .before .before in
     let year = month .before .before .before .before .before in
-    let text =
-    time-text (year .before .before .before .before .args .time) _ _ _ _ _ _
-    (year .before .wide .ensures)
-    (month .before .wide2 .ensures)
-    (day .before .wide3 .ensures)
-    (hour .before .wide4 .ensures)
-    (minute .before .wide5 .ensures)
-    (second .before .wide6 .ensures) in
     let months = stored-then _ _ _ _ _ _ _ _ _ (year .put-field .ensures .0) (month .put-field2 .ensures .0) in
     let days = stored-then _ _ _ _ _ _ _ _ _ months (day .put-field3 .ensures .0) in
     let hours = stored-then _ _ _ _ _ _ _ _ _ days (hour .put-field4 .ensures .0) in
     let minutes = stored-then _ _ _ _ _ _ _ _ _ hours (minute .put-field5 .ensures .0) in
-    stored-as _ _ _ _ _ _ text (stored-then _ _ _ _ _ _ _ _ _ minutes (second .put-field6 .ensures .0))
+    stored-as _ _ _ _ _ _ (time-text (year .before .before .before .before .args .time)) (stored-then _ _ _ _ _ _ _ _ _ minutes (second .put-field6 .ensures .0))
 
 same-length : tie.Need-same-length
 same-length c = ap length (whole c .output) ∙ simp length-sets
@@ -85,19 +43,6 @@ returns c = (whole c, omega (arith, c .before .before .before .before .before .b
 pub put-time-spec : {M : Type 1} → statement M
 put-time-spec =
     tie.close
-    (tie.spec
-    wide-requires
-    add-put-field
-    put-field-requires
-    wide-requires-2
-    put-field-requires-2
-    wide-requires-3
-    put-field-requires-3
-    wide-requires-4
-    put-field-requires-4
-    wide-requires-5
-    put-field-requires-5
-    wide-requires-6
-    put-field-requires-6
-    same-length
-    returns)
+    (tie.spec (λ c. search needs) (λ c. search needs) (λ c κs. search needs) (λ c. search needs) (λ c κs. search needs) (λ c. search needs)
+    (λ c κs. search needs) (λ c. search needs) (λ c κs. search needs) (λ c. search needs) put-field-requires-5 (λ c. search needs)
+    put-field-requires-6 same-length returns)

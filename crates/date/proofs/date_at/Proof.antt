@@ -12,27 +12,6 @@ use borrow.Author.Needs.{needs}
 use Rattle.date.proofs.date_at.Statement.{statement}
 use Rattle.date.proofs.date_at.Tie as tie
 
-rest-requires : tie.Need-rest-requires
-rest-requires c κs = search needs
-
-byte-at-requires : tie.Need-byte-at-requires
-byte-at-requires c κs = search needs
-
-byte-at-requires-2 : tie.Need-byte-at-requires-2
-byte-at-requires-2 c κs = search needs
-
-byte-at-requires-3 : tie.Need-byte-at-requires-3
-byte-at-requires-3 c κs = search needs
-
-byte-at-requires-4 : tie.Need-byte-at-requires-4
-byte-at-requires-4 c κs = search needs
-
-byte-at-requires-5 : tie.Need-byte-at-requires-5
-byte-at-requires-5 c κs = search needs
-
-byte-at-requires-6 : tie.Need-byte-at-requires-6
-byte-at-requires-6 c κs = search needs
-
 -- six bytes from the front
 six : (p : List ℕ) (a b c d e f : ℕ) → a ≡ getD p 0 0 → b ≡ getD p 1 0 → c ≡ getD p 2 0 → d ≡ getD p 3 0 → e ≡ getD p 4 0 → f ≡ getD p 5 0
     → _≡_ {A = DateTime} (record { year = a; month = b; day = c; hour = d; minute = e; second = f }) (dateOf (field p 0 6))
@@ -46,12 +25,5 @@ returns c =
 pub date-at-spec : {M : Type 1} → statement M
 date-at-spec =
     tie.close
-    (tie.spec
-    rest-requires
-    byte-at-requires
-    byte-at-requires-2
-    byte-at-requires-3
-    byte-at-requires-4
-    byte-at-requires-5
-    byte-at-requires-6
-    returns)
+    (tie.spec (λ c κs. search needs) (λ c κs. search needs) (λ c κs. search needs) (λ c κs. search needs) (λ c κs. search needs)
+    (λ c κs. search needs) (λ c κs. search needs) returns)

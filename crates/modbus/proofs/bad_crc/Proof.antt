@@ -4,21 +4,6 @@ use borrow.Author.Needs.{needs}
 use Rattle.modbus.proofs.bad_crc.Statement.{statement}
 use Rattle.modbus.proofs.bad_crc.Tie as tie
 
-less-requires : tie.Need-less-requires
-less-requires c κs = search needs
-
-le16-at-requires : tie.Need-le16-at-requires
-le16-at-requires c κs = search needs
-
-front-requires : tie.Need-front-requires
-front-requires c κs = search needs
-
-checksum-requires : tie.Need-checksum-requires
-checksum-requires c κs = search needs
-
-returns : tie.Need-returns
-returns c = cc
-
 pub bad-crc-spec : {M : Type 1} → statement M
 bad-crc-spec =
-    tie.close (tie.spec less-requires le16-at-requires front-requires checksum-requires returns)
+    tie.close (tie.spec (λ c κs. search needs) (λ c κs. search needs) (λ c κs. search needs) (λ c κs. search needs) (λ c. cc))

@@ -8,26 +8,8 @@ use borrow.Author.Needs.{needs}
 use Rattle.modbus.proofs.put_rtu.Statement.{statement}
 use Rattle.modbus.proofs.put_rtu.Tie as tie
 
-put-message-requires : tie.Need-put-message-requires
-put-message-requires c κs = search needs
-
-add-n : tie.Need-add-n
-add-n c = search needs
-
-slice-reshare-prefix-checksum : tie.Need-slice-reshare-prefix-checksum
-slice-reshare-prefix-checksum c = search needs
-
 slice-aggregate-checksum : tie.Need-slice-aggregate-checksum
 slice-aggregate-checksum c = sym (length-take-le _ _ (omega arith))
-
-checksum-requires : tie.Need-checksum-requires
-checksum-requires c κs = search needs
-
-put-le16-requires : tie.Need-put-le16-requires
-put-le16-requires c κs = search needs
-
-same-length : tie.Need-same-length
-same-length c = search needs
 
 returns : tie.Need-returns
 returns c =
@@ -37,12 +19,5 @@ returns c =
 pub put-rtu-spec : {M : Type 1} → statement M
 put-rtu-spec =
     tie.close
-    (tie.spec
-    put-message-requires
-    add-n
-    slice-reshare-prefix-checksum
-    slice-aggregate-checksum
-    checksum-requires
-    put-le16-requires
-    same-length
-    returns)
+    (tie.spec (λ c κs. search needs) (λ c. search needs) (λ c. search needs) slice-aggregate-checksum (λ c κs. search needs)
+    (λ c κs. search needs) (λ c. search needs) returns)

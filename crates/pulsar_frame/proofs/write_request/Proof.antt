@@ -6,21 +6,12 @@ use borrow.Author.Needs.{needs}
 use Rattle.pulsar_frame.proofs.write_request.Statement.{statement}
 use Rattle.pulsar_frame.proofs.write_request.Tie as tie
 
-bad-asked-requires : tie.Need-bad-asked-requires
-bad-asked-requires c κs = search needs
-
 returns : tie.Need-returns
 returns c = writes-refused _ _ 0 _ (hit _ _ _ _ (c .before .bad-asked .ensures) (c .if1 .taken))
-
-write-frame-requires : tie.Need-write-frame-requires
-write-frame-requires c κs = search needs
-
-same-length : tie.Need-same-length
-same-length c = search needs
 
 returns-2 : tie.Need-returns-2
 returns-2 c = search (writes-as, skip) depth 4
 
 pub write-request-spec : {M : Type 1} → statement M
 write-request-spec =
-    tie.close (tie.spec bad-asked-requires returns write-frame-requires same-length returns-2)
+    tie.close (tie.spec (λ c κs. search needs) returns (λ c κs. search needs) (λ c. search needs) returns-2)

@@ -5,9 +5,6 @@ use borrow.Author.Needs.{needs}
 use Rattle.pulsar_reply.proofs.clock_of.Statement.{statement}
 use Rattle.pulsar_reply.proofs.clock_of.Tie as tie
 
-is-no-date-requires : tie.Need-is-no-date-requires
-is-no-date-requires c κs = search needs
-
 returns : tie.Need-returns
 returns c = no-clock _ _ (c .before .is-no-date .ensures) (c .if1 .taken)
 
@@ -15,4 +12,4 @@ returns-2 : tie.Need-returns-2
 returns-2 c = some-clock _ _ (c .before .is-no-date .ensures) (c .if1 .left)
 
 pub clock-of-spec : {M : Type 1} → statement M
-clock-of-spec = tie.close (tie.spec is-no-date-requires returns returns-2)
+clock-of-spec = tie.close (tie.spec (λ c κs. search needs) returns returns-2)

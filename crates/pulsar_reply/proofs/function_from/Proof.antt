@@ -37,5 +37,4 @@ returns-9 c =
 
 pub function-from-spec : {M : Type 1} → statement M
 function-from-spec =
-    tie.close
-    (tie.spec returns returns-2 returns-3 returns-4 returns-5 returns-6 returns-7 returns-8 returns-9)
+    tie.close (tie.spec returns returns-2 returns-3 returns-4 returns-5 returns-6 returns-7 returns-8 returns-9)

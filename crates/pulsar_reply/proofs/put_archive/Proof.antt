@@ -5,15 +5,6 @@ use borrow.Author.Needs.{needs}
 use Rattle.pulsar_reply.proofs.put_archive.Statement.{statement}
 use Rattle.pulsar_reply.proofs.put_archive.Tie as tie
 
-put-le32-requires : tie.Need-put-le32-requires
-put-le32-requires c κs = search needs
-
-put-date-requires : tie.Need-put-date-requires
-put-date-requires c κs = search needs
-
-same-length : tie.Need-same-length
-same-length c = search needs
-
 returns : tie.Need-returns
 returns c =
     let d = c .before .before in
@@ -21,4 +12,4 @@ returns c =
     archive-stored _ _ _ (m .before .before .before .before .args .a) (m .put-le32 .ensures) (d .put-date .ensures)
 
 pub put-archive-spec : {M : Type 1} → statement M
-put-archive-spec = tie.close (tie.spec put-le32-requires put-date-requires same-length returns)
+put-archive-spec = tie.close (tie.spec (λ c κs. search needs) (λ c κs. search needs) (λ c. search needs) returns)

@@ -5,24 +5,14 @@ use borrow.Author.Needs.{needs}
 use Rattle.pulsar_reply.proofs.read_reply.Statement.{statement}
 use Rattle.pulsar_reply.proofs.read_reply.Tie as tie
 
-function-from-requires : tie.Need-function-from-requires
-function-from-requires c κs = search needs
-
-reading-requires : tie.Need-reading-requires
-reading-requires c κs = search needs
-
 returns : tie.Need-returns
-returns c = read-refused _ _ _ _ _ _ (c .before .before .function-from .ensures) (c .before .reading .ensures) (c .if1 .taken)
-
-reply-of-requires : tie.Need-reply-of-requires
-reply-of-requires c κs = search needs
+returns c = read-refused _ _ _ _ _ _ (c .before .before .function-from .ensures) (c .before .read-fault .ensures) (c .if1 .taken)
 
 returns-2 : tie.Need-returns-2
 returns-2 c =
     let judged = c .before in
-    read-accepted _ _ _ _ _ _ (judged .before .before .function-from .ensures) (judged .before .reading .ensures) (judged .if1 .left) _ (c .reply-of .ensures)
+    read-accepted _ _ _ _ _ _ (judged .before .before .function-from .ensures) (judged .before .read-fault .ensures) (judged .if1 .left) _ (c .reply-of .ensures)
 
 pub read-reply-spec : {M : Type 1} → statement M
 read-reply-spec =
-    tie.close
-    (tie.spec function-from-requires reading-requires returns reply-of-requires returns-2)
+    tie.close (tie.spec (λ c κs. search needs) (λ c κs. search needs) returns (λ c κs. search needs) returns-2)

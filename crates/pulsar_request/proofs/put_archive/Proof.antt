@@ -5,24 +5,6 @@ use borrow.Author.Needs.{needs}
 use Rattle.pulsar_request.proofs.put_archive.Statement.{statement}
 use Rattle.pulsar_request.proofs.put_archive.Tie as tie
 
-put-le32-requires : tie.Need-put-le32-requires
-put-le32-requires c κs = search needs
-
-type-number-requires : tie.Need-type-number-requires
-type-number-requires c κs = search needs
-
-put-le16-requires : tie.Need-put-le16-requires
-put-le16-requires c κs = search needs
-
-put-date-requires : tie.Need-put-date-requires
-put-date-requires c κs = search needs
-
-put-date-requires-2 : tie.Need-put-date-requires-2
-put-date-requires-2 c κs = search needs
-
-same-length : tie.Need-same-length
-same-length c = search needs
-
 returns : tie.Need-returns
 returns c =
     let l = c .before .before in
@@ -35,11 +17,5 @@ returns c =
 pub put-archive-spec : {M : Type 1} → statement M
 put-archive-spec =
     tie.close
-    (tie.spec
-    put-le32-requires
-    type-number-requires
-    put-le16-requires
-    put-date-requires
-    put-date-requires-2
-    same-length
-    returns)
+    (tie.spec (λ c κs. search needs) (λ c κs. search needs) (λ c κs. search needs) (λ c κs. search needs) (λ c κs. search needs)
+    (λ c. search needs) returns)

@@ -6,18 +6,6 @@ use borrow.Author.Needs.{needs}
 use Rattle.reading.proofs.is_absent.Statement.{statement}
 use Rattle.reading.proofs.is_absent.Tie as tie
 
-enum-known-r : tie.Need-enum-known-r
-enum-known-r c = search needs
-
-enum-known-r-2 : tie.Need-enum-known-r-2
-enum-known-r-2 c = search needs
-
-enum-known-r-3 : tie.Need-enum-known-r-3
-enum-known-r-3 c = search needs
-
-enum-known-r-4 : tie.Need-enum-known-r-4
-enum-known-r-4 c = search needs
-
 returns : tie.Need-returns
 returns c = sym (ap isAbsent (c .before .r .given .1))
 
@@ -33,12 +21,4 @@ returns-4 c = sym (ap isAbsent (c .before .r4 .given .1))
 pub is-absent-spec : {M : Type 1} → statement M
 is-absent-spec =
     tie.close
-    (tie.spec
-    enum-known-r
-    enum-known-r-2
-    enum-known-r-3
-    enum-known-r-4
-    returns
-    returns-2
-    returns-3
-    returns-4)
+    (tie.spec (λ c. search needs) (λ c. search needs) (λ c. search needs) (λ c. search needs) returns returns-2 returns-3 returns-4)

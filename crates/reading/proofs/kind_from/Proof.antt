@@ -8,15 +8,6 @@ use borrow.Author.Needs.{needs}
 use Rattle.reading.proofs.kind_from.Statement.{statement}
 use Rattle.reading.proofs.kind_from.Tie as tie
 
-returns : tie.Need-returns
-returns c = search needs
-
-returns-2 : tie.Need-returns-2
-returns-2 c = search needs
-
-returns-3 : tie.Need-returns-3
-returns-3 c = search needs
-
 -- 3, and what is no number of two bits
 other : (n : ℕ) → (n ≡ 0 → ⊥) → (n ≡ 1 → ⊥) → (n ≡ 2 → ⊥) → U64 ≡ kindFrom n
 other zero a b c = absurd (a refl)
@@ -30,4 +21,4 @@ returns-4 c =
     other _ (r .0 .0 .1) (r .0 .1) (r .1)
 
 pub kind-from-spec : {M : Type 1} → statement M
-kind-from-spec = tie.close (tie.spec returns returns-2 returns-3 returns-4)
+kind-from-spec = tie.close (tie.spec (λ c. search needs) (λ c. search needs) (λ c. search needs) returns-4)

@@ -10,21 +10,6 @@ use Rattle.reading.proofs.of_bits.Tie as tie
 enum-told : tie.Need-enum-told
 enum-told c = search needs
 
-cast-t5 : tie.Need-cast-t5
-cast-t5 c = search needs
-
-enum-told-2 : tie.Need-enum-told-2
-enum-told-2 c = search needs
-
-enum-told-3 : tie.Need-enum-told-3
-enum-told-3 c = search needs
-
-cast-t7 : tie.Need-cast-t7
-cast-t7 c = search needs
-
-enum-told-4 : tie.Need-enum-told-4
-enum-told-4 c = search needs
-
 returns : tie.Need-returns
 returns c = sym (ap (λ (k : Kind). readingOf k (c .before .before .args .bits)) (c .enum-told .given .1))
 
@@ -40,14 +25,5 @@ returns-4 c = sym (ap (λ (k : Kind). readingOf k (c .before .before .args .bits
 pub of-bits-spec : {M : Type 1} → statement M
 of-bits-spec =
     tie.close
-    (tie.spec
-    enum-told
-    cast-t5
-    enum-told-2
-    enum-told-3
-    cast-t7
-    enum-told-4
-    returns
-    returns-2
-    returns-3
-    returns-4)
+    (tie.spec enum-told (λ c. search needs) (λ c. search needs) (λ c. search needs) (λ c. search needs) (λ c. search needs) returns
+    returns-2 returns-3 returns-4)

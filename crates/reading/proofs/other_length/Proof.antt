@@ -4,11 +4,5 @@ use borrow.Author.Needs.{needs}
 use Rattle.reading.proofs.other_length.Statement.{statement}
 use Rattle.reading.proofs.other_length.Tie as tie
 
-width-of-requires : tie.Need-width-of-requires
-width-of-requires c κs = search needs
-
-returns : tie.Need-returns
-returns c = cc
-
 pub other-length-spec : {M : Type 1} → statement M
-other-length-spec = tie.close (tie.spec width-of-requires returns)
+other-length-spec = tie.close (tie.spec (λ c κs. search needs) (λ c. cc))

@@ -5,12 +5,9 @@ use borrow.Author.Needs.{needs}
 use Rattle.sm160_frame.proofs.is_end.Statement.{statement}
 use Rattle.sm160_frame.proofs.is_end.Tie as tie
 
-flags-of-requires : tie.Need-flags-of-requires
-flags-of-requires c κs = search needs
-
 returns : tie.Need-returns
 unfolding isEnd
 returns c = cc
 
 pub is-end-spec : {M : Type 1} → statement M
-is-end-spec = tie.close (tie.spec flags-of-requires returns)
+is-end-spec = tie.close (tie.spec (λ c κs. search needs) returns)

@@ -5,12 +5,9 @@ use borrow.Author.Needs.{needs}
 use Rattle.sm160_frame.proofs.is_start.Statement.{statement}
 use Rattle.sm160_frame.proofs.is_start.Tie as tie
 
-flags-of-requires : tie.Need-flags-of-requires
-flags-of-requires c κs = search needs
-
 returns : tie.Need-returns
 unfolding isStart
 returns c = cc
 
 pub is-start-spec : {M : Type 1} → statement M
-is-start-spec = tie.close (tie.spec flags-of-requires returns)
+is-start-spec = tie.close (tie.spec (λ c κs. search needs) returns)

@@ -5,12 +5,9 @@ use borrow.Author.Needs.{needs}
 use Rattle.sm160_frame.proofs.part_of.Statement.{statement}
 use Rattle.sm160_frame.proofs.part_of.Tie as tie
 
-rest-requires : tie.Need-rest-requires
-rest-requires c κs = search needs
-
 returns : tie.Need-returns
 unfolding partOf
 returns c = cc
 
 pub part-of-spec : {M : Type 1} → statement M
-part-of-spec = tie.close (tie.spec rest-requires returns)
+part-of-spec = tie.close (tie.spec (λ c κs. search needs) returns)

@@ -8,26 +8,8 @@ use borrow.Author.Needs.{needs}
 use Rattle.sm160_frame.proofs.put_frame.Statement.{statement}
 use Rattle.sm160_frame.proofs.put_frame.Tie as tie
 
-put-fields-requires : tie.Need-put-fields-requires
-put-fields-requires c κs = search needs
-
-add-n : tie.Need-add-n
-add-n c = search needs
-
-slice-reshare-prefix-crc-due : tie.Need-slice-reshare-prefix-crc-due
-slice-reshare-prefix-crc-due c = search needs
-
 slice-aggregate-crc-due : tie.Need-slice-aggregate-crc-due
 slice-aggregate-crc-due c = sym (length-take-le _ _ (omega arith))
-
-crc-due-requires : tie.Need-crc-due-requires
-crc-due-requires c κs = search needs
-
-put-le16-requires : tie.Need-put-le16-requires
-put-le16-requires c κs = search needs
-
-same-length : tie.Need-same-length
-same-length c = search needs
 
 returns : tie.Need-returns
 returns c =
@@ -37,12 +19,5 @@ returns c =
 pub put-frame-spec : {M : Type 1} → statement M
 put-frame-spec =
     tie.close
-    (tie.spec
-    put-fields-requires
-    add-n
-    slice-reshare-prefix-crc-due
-    slice-aggregate-crc-due
-    crc-due-requires
-    put-le16-requires
-    same-length
-    returns)
+    (tie.spec (λ c κs. search needs) (λ c. search needs) (λ c. search needs) slice-aggregate-crc-due (λ c κs. search needs)
+    (λ c κs. search needs) (λ c. search needs) returns)

@@ -9,20 +9,11 @@ use borrow.Author.Needs.{needs}
 use Rattle.sm160_frame.proofs.write_frame.Statement.{statement}
 use Rattle.sm160_frame.proofs.write_frame.Tie as tie
 
-bad-part-requires : tie.Need-bad-part-requires
-bad-part-requires c κs = search needs
-
 returns : tie.Need-returns
 returns c = writes-refused _ _ 22 _ (search (hit, skip) depth 12)
 
-bad-flags-requires : tie.Need-bad-flags-requires
-bad-flags-requires c κs = search needs
-
 returns-2 : tie.Need-returns-2
 returns-2 c = writes-refused _ _ 24 _ (search (hit, skip) depth 12)
-
-add-n : tie.Need-add-n
-add-n c = search needs
 
 returns-3 : tie.Need-returns-3
 returns-3 c =
@@ -34,9 +25,6 @@ put-frame-requires c κs =
     let good = c .before .before .before .before in
     (small-part (c .before .before .before .before .before .before .before .before .args .part .now) (sym (good .before .bad-part .ensures) ∙ good .if1 .left), search needs)
 
-same-length : tie.Need-same-length
-same-length c = search needs
-
 returns-4 : tie.Need-returns-4
 returns-4 c =
     let t = c .before .before .before .before in
@@ -47,13 +35,5 @@ returns-4 c =
 pub write-frame-spec : {M : Type 1} → statement M
 write-frame-spec =
     tie.close
-    (tie.spec
-    bad-part-requires
-    returns
-    bad-flags-requires
-    returns-2
-    add-n
-    returns-3
-    put-frame-requires
-    same-length
-    returns-4)
+    (tie.spec (λ c κs. search needs) returns (λ c κs. search needs) returns-2 (λ c. search needs) returns-3 put-frame-requires
+    (λ c. search needs) returns-4)

@@ -1,51 +1,27 @@
 -- `sm160_receiver::accept_frame` meets its contract.
 -- Assumes nothing.
-use Rattle.sm160_receiver.proofs.Steps.{accepts}
+use mathlib.Core.Path.{_≡_, sym, _∙_}
+use mathlib.Core.Logic.{⊎-elim}
+use Rattle.sm160_frame.specs.Layout.{offsetOf}
+use Rattle.sm160_receiver.proofs.Steps.{start-at, others-at, accepts}
 use borrow.Author.Needs.{needs}
 use Rattle.sm160_receiver.proofs.accept_frame.Statement.{statement}
 use Rattle.sm160_receiver.proofs.accept_frame.Tie as tie
 
-is-end-requires : tie.Need-is-end-requires
-is-end-requires c κs = search needs
-
-reach-requires : tie.Need-reach-requires
-reach-requires c κs = search needs
-
-offset-of-requires : tie.Need-offset-of-requires
-offset-of-requires c κs = search needs
-
-wide-requires : tie.Need-wide-requires
-wide-requires c κs = search needs
-
-part-of-requires : tie.Need-part-of-requires
-part-of-requires c κs = search needs
-
-put-all-requires : tie.Need-put-all-requires
-put-all-requires c κs = search needs
-
-answered-requires : tie.Need-answered-requires
-answered-requires c κs = search needs
-
-gone-on-requires : tie.Need-gone-on-requires
-gone-on-requires c κs = search needs
-
-same-length : tie.Need-same-length
-same-length c = search needs
-
 returns : tie.Need-returns
-returns c = accepts _ _ _ _ _ _ (cc) (cc) (cc)
+returns c =
+    let j = c .before .before .before .before .before .before .before in
+    let begun = j .before .before .before .before .before .before in
+    let a = begun .args in
+    let starts = j .before .is-start .ensures in
+    let at : j .if1 .at ≡ offsetOf (a .frame .now) =
+    ⊎-elim
+    (λ w. w .1 ∙ start-at (a .state) (a .frame .now) (a .buffer .now) (begun .pre) (sym starts ∙ w .0 .taken))
+    (λ w. w .1 ∙ others-at (a .state) (a .frame .now) (a .buffer .now) (begun .pre) (sym starts ∙ w .0 .left)) (j .if1 .came) in
+    accepts _ _ _ _ _ _ (cc) (cc) (cc)
 
 pub accept-frame-spec : {M : Type 1} → statement M
 accept-frame-spec =
     tie.close
-    (tie.spec
-    is-end-requires
-    reach-requires
-    offset-of-requires
-    wide-requires
-    part-of-requires
-    put-all-requires
-    answered-requires
-    gone-on-requires
-    same-length
-    returns)
+    (tie.spec (λ c κs. search needs) (λ c κs. search needs) (λ c κs. search needs) (λ c κs. search needs) (λ c κs. search needs)
+    (λ c κs. search needs) (λ c κs. search needs) (λ c. search needs) returns)

@@ -4,11 +4,5 @@ use borrow.Author.Needs.{needs}
 use Rattle.sm160_receiver.proofs.beyond_buffer.Statement.{statement}
 use Rattle.sm160_receiver.proofs.beyond_buffer.Tie as tie
 
-reach-requires : tie.Need-reach-requires
-reach-requires c κs = search needs
-
-returns : tie.Need-returns
-returns c = cc
-
 pub beyond-buffer-spec : {M : Type 1} → statement M
-beyond-buffer-spec = tie.close (tie.spec reach-requires returns)
+beyond-buffer-spec = tie.close (tie.spec (λ c κs. search needs) (λ c. cc))

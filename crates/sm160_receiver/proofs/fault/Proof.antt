@@ -7,40 +7,24 @@ use borrow.Author.Needs.{needs}
 use Rattle.sm160_receiver.proofs.fault.Statement.{statement}
 use Rattle.sm160_receiver.proofs.fault.Tie as tie
 
-is-unfit-requires : tie.Need-is-unfit-requires
-is-unfit-requires c κs = search needs
-
 returns : tie.Need-returns
 unfolding refusal
 returns c = search hit depth 12
 
-frame-fault-requires : tie.Need-frame-fault-requires
-frame-fault-requires c κs = search needs
-
 returns-2 : tie.Need-returns-2
 unfolding refusal
 returns-2 c =
-    let a = c .before .before .before .before .before .args in
+    let a = c .before .before .before .before .before .before .args in
     skip _ _ _ _ _ (c .before .before .before .is-unfit .ensures) (c .before .before .if1 .left)
-    (frame-found (a .frame .now) (placeRules (a .state) (a .room) (a .frame .now)) _ (c .before .frame-fault .ensures) (c .if2 .taken))
-
-place-fault-requires : tie.Need-place-fault-requires
-place-fault-requires c κs = search needs
+    (frame-found (a .frame .now) (placeRules (a .state) (a .buffer .now) (a .frame .now)) _ (c .before .frame-fault .ensures) (c .if2 .taken))
 
 returns-3 : tie.Need-returns-3
 unfolding refusal
 returns-3 c =
-    let a = c .before .before .before .before .before .before .args in
+    let a = c .before .before .before .before .before .before .before .args in
     skip _ _ _ _ _ (c .before .before .before .before .is-unfit .ensures) (c .before .before .before .if1 .left)
-    (frame-passed (a .frame .now) (placeRules (a .state) (a .room) (a .frame .now)) _ _ (c .before .before .frame-fault .ensures) (c .before .if2 .left) (c .place-fault .ensures))
+    (frame-passed (a .frame .now) (placeRules (a .state) (a .buffer .now) (a .frame .now)) _ _ (c .before .before .frame-fault .ensures) (c .before .if2 .left) (c .place-fault .ensures))
 
 pub fault-spec : {M : Type 1} → statement M
 fault-spec =
-    tie.close
-    (tie.spec
-    is-unfit-requires
-    returns
-    frame-fault-requires
-    returns-2
-    place-fault-requires
-    returns-3)
+    tie.close (tie.spec (λ c κs. search needs) returns (λ c κs. search needs) returns-2 (λ c κs. search needs) returns-3)

@@ -4,11 +4,5 @@ use borrow.Author.Needs.{needs}
 use Rattle.sm160_receiver.proofs.nothing_under_way.Statement.{statement}
 use Rattle.sm160_receiver.proofs.nothing_under_way.Tie as tie
 
-is-start-requires : tie.Need-is-start-requires
-is-start-requires c κs = search needs
-
-returns : tie.Need-returns
-returns c = cc
-
 pub nothing-under-way-spec : {M : Type 1} → statement M
-nothing-under-way-spec = tie.close (tie.spec is-start-requires returns)
+nothing-under-way-spec = tie.close (tie.spec (λ c κs. search needs) (λ c. cc))

@@ -4,11 +4,5 @@ use borrow.Author.Needs.{needs}
 use Rattle.sm160_receiver.proofs.other_session.Statement.{statement}
 use Rattle.sm160_receiver.proofs.other_session.Tie as tie
 
-session-of-requires : tie.Need-session-of-requires
-session-of-requires c κs = search needs
-
-returns : tie.Need-returns
-returns c = cc
-
 pub other-session-spec : {M : Type 1} → statement M
-other-session-spec = tie.close (tie.spec session-of-requires returns)
+other-session-spec = tie.close (tie.spec (λ c κs. search needs) (λ c. cc))

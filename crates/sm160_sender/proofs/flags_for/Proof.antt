@@ -4,9 +4,6 @@ use borrow.Author.Needs.{needs}
 use Rattle.sm160_sender.proofs.flags_for.Statement.{statement}
 use Rattle.sm160_sender.proofs.flags_for.Tie as tie
 
-add-result : tie.Need-add-result
-add-result c = search needs
-
 returns : tie.Need-returns
 returns c = rw (c .before .if1 .taken, c .if2 .taken)
 
@@ -20,4 +17,4 @@ returns-4 : tie.Need-returns-4
 returns-4 c = rw (c .before .if1 .left, c .if3 .left)
 
 pub flags-for-spec : {M : Type 1} → statement M
-flags-for-spec = tie.close (tie.spec add-result returns returns-2 returns-3 returns-4)
+flags-for-spec = tie.close (tie.spec (λ c. search needs) returns returns-2 returns-3 returns-4)

@@ -6,12 +6,6 @@ use borrow.Author.Needs.{needs}
 use Rattle.wire.proofs.le32_at.Statement.{statement}
 use Rattle.wire.proofs.le32_at.Tie as tie
 
-rest-requires : tie.Need-rest-requires
-rest-requires c κs = search needs
-
-le-of-requires : tie.Need-le-of-requires
-le-of-requires c κs = search needs
-
 cast-result : tie.Need-cast-result
 cast-result c = record { fits = c .le-of .ensures .1 }
 
@@ -19,4 +13,4 @@ returns : tie.Need-returns
 returns c = read-at ofLe _ _ _ 4 _ (c .le-of .ensures .0) (c .before .rest .ensures)
 
 pub le32-at-spec : {M : Type 1} → statement M
-le32-at-spec = tie.close (tie.spec rest-requires le-of-requires cast-result returns)
+le32-at-spec = tie.close (tie.spec (λ c κs. search needs) (λ c κs. search needs) cast-result returns)

@@ -6,14 +6,8 @@ use borrow.Author.Needs.{needs}
 use Rattle.wire.proofs.le64_at.Statement.{statement}
 use Rattle.wire.proofs.le64_at.Tie as tie
 
-rest-requires : tie.Need-rest-requires
-rest-requires c κs = search needs
-
-le-of-requires : tie.Need-le-of-requires
-le-of-requires c κs = search needs
-
 returns : tie.Need-returns
 returns c = read-at ofLe _ _ _ 8 _ (c .le-of .ensures .0) (c .before .rest .ensures)
 
 pub le64-at-spec : {M : Type 1} → statement M
-le64-at-spec = tie.close (tie.spec rest-requires le-of-requires returns)
+le64-at-spec = tie.close (tie.spec (λ c κs. search needs) (λ c κs. search needs) returns)

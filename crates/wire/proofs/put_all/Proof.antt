@@ -16,29 +16,8 @@ Inv-loop out₀ at src part i₀ out i = (i ≤ length part) × (length part ≤
 abbrev μ-loop : tie.MeasureT-loop
 μ-loop out₀ at src part i₀ out i = length part - i
 
-less-requires : tie.Need-less-requires Inv-loop μ-loop
-less-requires c κs = search needs
-
-front-requires : tie.Need-front-requires Inv-loop μ-loop
-front-requires c κs = search needs
-
 loop-holds : tie.Need-loop-holds Inv-loop μ-loop
-loop-holds c = (omega arith, part-fits _ _ _ _ (c .front .ensures) (c .before .less .ensures), refl, refl)
-
-shared-slice-read-out : tie.Need-shared-slice-read-out Inv-loop μ-loop
-shared-slice-read-out c = omega arith
-
-add-out : tie.Need-add-out Inv-loop μ-loop
-add-out c = omega arith
-
-slice-write-out : tie.Need-slice-write-out Inv-loop μ-loop
-slice-write-out c = omega arith
-
-add-i : tie.Need-add-i Inv-loop μ-loop
-add-i c = omega arith
-
-loop-less : tie.Need-loop-less Inv-loop μ-loop
-loop-less c = omega arith
+loop-holds c = (omega arith, part-fits _ _ _ _ (c .front .ensures) (c .before .minus .ensures), refl, refl)
 
 loop-again : tie.Need-loop-again Inv-loop μ-loop
 loop-again c =
@@ -53,22 +32,10 @@ returns c =
     let called = c .before .before in
     c .before .loop .inv .2
     ∙ sets-all _ _ _ _ (c .loop-test .left)
-    ∙ sets-part _ _ _ _ _ (called .front .ensures) (called .before .less .ensures)
+    ∙ sets-part _ _ _ _ _ (called .front .ensures) (called .before .minus .ensures)
 
 pub put-all-spec : {M : Type 1} → statement M
 put-all-spec =
     tie.close
-    (tie.spec
-    Inv-loop
-    μ-loop
-    less-requires
-    front-requires
-    loop-holds
-    shared-slice-read-out
-    add-out
-    slice-write-out
-    add-i
-    loop-less
-    loop-again
-    same-length
-    returns)
+    (tie.spec Inv-loop μ-loop (λ c κs. search needs) (λ c κs. search needs) loop-holds (λ c. omega arith) (λ c. omega arith)
+    (λ c. omega arith) (λ c. omega arith) (λ c. omega arith) loop-again same-length returns)

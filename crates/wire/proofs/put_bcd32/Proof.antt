@@ -9,27 +9,6 @@ use Rattle.wire.proofs.put_bcd32.Lts as lts
 use Rattle.wire.proofs.put_all.Reads as put-all-reads
 use Rattle.wire.proofs.to_bcd.Reads as to-bcd-reads
 
-to-bcd-requires : tie.Need-to-bcd-requires
-to-bcd-requires c κs = search needs
-
-to-bcd-requires-2 : tie.Need-to-bcd-requires-2
-to-bcd-requires-2 c κs = search needs
-
-to-bcd-requires-3 : tie.Need-to-bcd-requires-3
-to-bcd-requires-3 c κs = search needs
-
-to-bcd-requires-4 : tie.Need-to-bcd-requires-4
-to-bcd-requires-4 c κs = search needs
-
-slice-aggregate-put-all : tie.Need-slice-aggregate-put-all
-slice-aggregate-put-all c = search needs
-
-put-all-requires : tie.Need-put-all-requires
-put-all-requires c κs = search needs
-
-same-length : tie.Need-same-length
-same-length c = search needs
-
 returns : tie.Need-returns
 unfolding bcd digits
 returns c = cc
@@ -37,12 +16,5 @@ returns c = cc
 pub put-bcd32-spec : {M : Type 1} → statement M
 put-bcd32-spec =
     tie.close
-    (tie.spec
-    to-bcd-requires
-    to-bcd-requires-2
-    to-bcd-requires-3
-    to-bcd-requires-4
-    slice-aggregate-put-all
-    put-all-requires
-    same-length
-    returns)
+    (tie.spec (λ c κs. search needs) (λ c κs. search needs) (λ c κs. search needs) (λ c κs. search needs) (λ c. search needs)
+    (λ c κs. search needs) (λ c. search needs) returns)

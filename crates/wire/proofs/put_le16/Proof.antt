@@ -8,26 +8,10 @@ use Rattle.wire.proofs.put_le16.Reads as reads
 use Rattle.wire.proofs.put_le16.Lts as lts
 use Rattle.wire.proofs.put_all.Reads as put-all-reads
 
-cast-t6 : tie.Need-cast-t6
-cast-t6 c = search needs
-
-cast-t9 : tie.Need-cast-t9
-cast-t9 c = search needs
-
-slice-aggregate-put-all : tie.Need-slice-aggregate-put-all
-slice-aggregate-put-all c = search needs
-
-put-all-requires : tie.Need-put-all-requires
-put-all-requires c κs = search needs
-
-same-length : tie.Need-same-length
-same-length c = search needs
-
 returns : tie.Need-returns
 unfolding le digits
 returns c = cc
 
 pub put-le16-spec : {M : Type 1} → statement M
 put-le16-spec =
-    tie.close
-    (tie.spec cast-t6 cast-t9 slice-aggregate-put-all put-all-requires same-length returns)
+    tie.close (tie.spec (λ c. search needs) (λ c. search needs) (λ c. search needs) (λ c κs. search needs) (λ c. search needs) returns)

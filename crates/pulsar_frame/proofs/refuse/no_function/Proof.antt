@@ -4,11 +4,5 @@ use borrow.Author.Needs.{needs}
 use Rattle.pulsar_frame.proofs.refuse.no_function.Statement.{statement}
 use Rattle.pulsar_frame.proofs.refuse.no_function.Tie as tie
 
-function-of-requires : tie.Need-function-of-requires
-function-of-requires c κs = search needs
-
-returns : tie.Need-returns
-returns c = cc
-
 pub no-function-spec : {M : Type 1} → statement M
-no-function-spec = tie.close (tie.spec function-of-requires returns)
+no-function-spec = tie.close (tie.spec (λ c κs. search needs) (λ c. cc))

@@ -4,11 +4,5 @@ use borrow.Author.Needs.{needs}
 use Rattle.pulsar_frame.proofs.refuse.not_mine.Statement.{statement}
 use Rattle.pulsar_frame.proofs.refuse.not_mine.Tie as tie
 
-address-of-requires : tie.Need-address-of-requires
-address-of-requires c κs = search needs
-
-returns : tie.Need-returns
-returns c = cc
-
 pub not-mine-spec : {M : Type 1} → statement M
-not-mine-spec = tie.close (tie.spec address-of-requires returns)
+not-mine-spec = tie.close (tie.spec (λ c κs. search needs) (λ c. cc))

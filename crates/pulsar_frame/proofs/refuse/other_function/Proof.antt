@@ -4,11 +4,5 @@ use borrow.Author.Needs.{needs}
 use Rattle.pulsar_frame.proofs.refuse.other_function.Statement.{statement}
 use Rattle.pulsar_frame.proofs.refuse.other_function.Tie as tie
 
-function-of-requires : tie.Need-function-of-requires
-function-of-requires c κs = search needs
-
-returns : tie.Need-returns
-returns c = cc
-
 pub other-function-spec : {M : Type 1} → statement M
-other-function-spec = tie.close (tie.spec function-of-requires returns)
+other-function-spec = tie.close (tie.spec (λ c κs. search needs) (λ c. cc))

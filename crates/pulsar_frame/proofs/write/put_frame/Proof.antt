@@ -8,26 +8,8 @@ use borrow.Author.Needs.{needs}
 use Rattle.pulsar_frame.proofs.write.put_frame.Statement.{statement}
 use Rattle.pulsar_frame.proofs.write.put_frame.Tie as tie
 
-put-body-requires : tie.Need-put-body-requires
-put-body-requires c κs = search needs
-
-add-n : tie.Need-add-n
-add-n c = search needs
-
-slice-reshare-prefix-checksum : tie.Need-slice-reshare-prefix-checksum
-slice-reshare-prefix-checksum c = search needs
-
 slice-aggregate-checksum : tie.Need-slice-aggregate-checksum
 slice-aggregate-checksum c = sym (length-take-le _ _ (omega arith))
-
-checksum-requires : tie.Need-checksum-requires
-checksum-requires c κs = search needs
-
-put-le16-requires : tie.Need-put-le16-requires
-put-le16-requires c κs = search needs
-
-same-length : tie.Need-same-length
-same-length c = search needs
 
 returns : tie.Need-returns
 returns c =
@@ -37,12 +19,5 @@ returns c =
 pub put-frame-spec : {M : Type 1} → statement M
 put-frame-spec =
     tie.close
-    (tie.spec
-    put-body-requires
-    add-n
-    slice-reshare-prefix-checksum
-    slice-aggregate-checksum
-    checksum-requires
-    put-le16-requires
-    same-length
-    returns)
+    (tie.spec (λ c κs. search needs) (λ c. search needs) (λ c. search needs) slice-aggregate-checksum (λ c κs. search needs)
+    (λ c κs. search needs) (λ c. search needs) returns)

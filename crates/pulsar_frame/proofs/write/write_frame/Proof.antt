@@ -9,17 +9,8 @@ use Rattle.pulsar_frame.proofs.Stores.{length-frame, over-frame}
 use Rattle.pulsar_frame.proofs.write.write_frame.Statement.{statement}
 use Rattle.pulsar_frame.proofs.write.write_frame.Tie as tie
 
-too-long-requires : tie.Need-too-long-requires
-too-long-requires c κs = search needs
-
 returns : tie.Need-returns
 returns c = writes-refused _ _ 16 _ (search (hit, skip) depth 4)
-
-no-room-requires : tie.Need-no-room-requires
-no-room-requires c κs = search needs
-
-same-length : tie.Need-same-length
-same-length c = search needs
 
 returns-2 : tie.Need-returns-2
 returns-2 c = writes-refused _ _ 15 _ (search (hit, skip) depth 4)
@@ -29,12 +20,6 @@ put-frame-requires c κs =
     let e₂ = c .before in
     let e₁ = e₂ .before .before .before in
     (ltb-false _ _ (sym (e₁ .before .too-long .ensures) ∙ e₁ .if1 .left), ltb-false _ _ (sym (e₂ .before .no-room .ensures) ∙ e₂ .if2 .left))
-
-add-t14 : tie.Need-add-t14
-add-t14 c = search needs
-
-same-length-2 : tie.Need-same-length-2
-same-length-2 c = search needs
 
 returns-3 : tie.Need-returns-3
 returns-3 c =
@@ -47,13 +32,5 @@ returns-3 c =
 pub write-frame-spec : {M : Type 1} → statement M
 write-frame-spec =
     tie.close
-    (tie.spec
-    too-long-requires
-    returns
-    no-room-requires
-    same-length
-    returns-2
-    put-frame-requires
-    add-t14
-    same-length-2
-    returns-3)
+    (tie.spec (λ c κs. search needs) returns (λ c κs. search needs) (λ c. search needs) returns-2 put-frame-requires (λ c. search needs)
+    (λ c. search needs) returns-3)

@@ -4,18 +4,6 @@ use borrow.Author.Needs.{needs}
 use Rattle.pulsar_reply.proofs.judge.not_three_zeros.Statement.{statement}
 use Rattle.pulsar_reply.proofs.judge.not_three_zeros.Tie as tie
 
-not-zero-requires : tie.Need-not-zero-requires
-not-zero-requires c κs = search needs
-
-not-zero-requires-2 : tie.Need-not-zero-requires-2
-not-zero-requires-2 c κs = search needs
-
-not-zero-requires-3 : tie.Need-not-zero-requires-3
-not-zero-requires-3 c κs = search needs
-
-returns : tie.Need-returns
-returns c = cc
-
 pub not-three-zeros-spec : {M : Type 1} → statement M
 not-three-zeros-spec =
-    tie.close (tie.spec not-zero-requires not-zero-requires-2 not-zero-requires-3 returns)
+    tie.close (tie.spec (λ c κs. search needs) (λ c κs. search needs) (λ c κs. search needs) (λ c. cc))

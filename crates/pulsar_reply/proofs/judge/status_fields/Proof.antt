@@ -7,17 +7,8 @@ use borrow.Author.Needs.{needs}
 use Rattle.pulsar_reply.proofs.judge.status_fields.Statement.{statement}
 use Rattle.pulsar_reply.proofs.judge.status_fields.Tie as tie
 
-byte-at-requires : tie.Need-byte-at-requires
-byte-at-requires c κs = search needs
-
-bad-status-requires : tie.Need-bad-status-requires
-bad-status-requires c κs = search needs
-
 returns : tie.Need-returns
 returns c = hit _ _ _ _ (c .before .bad-status .ensures ∙ ap badStatus (c .before .before .byte-at .ensures)) (c .if1 .taken)
-
-not-three-zeros-requires : tie.Need-not-three-zeros-requires
-not-three-zeros-requires c κs = search needs
 
 returns-2 : tie.Need-returns-2
 returns-2 c =
@@ -31,11 +22,4 @@ returns-3 c =
 
 pub status-fields-spec : {M : Type 1} → statement M
 status-fields-spec =
-    tie.close
-    (tie.spec
-    byte-at-requires
-    bad-status-requires
-    returns
-    not-three-zeros-requires
-    returns-2
-    returns-3)
+    tie.close (tie.spec (λ c κs. search needs) (λ c κs. search needs) returns (λ c κs. search needs) returns-2 returns-3)

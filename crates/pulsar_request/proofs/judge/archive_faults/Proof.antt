@@ -5,35 +5,8 @@ use borrow.Author.Needs.{needs}
 use Rattle.pulsar_request.proofs.judge.archive_faults.Statement.{statement}
 use Rattle.pulsar_request.proofs.judge.archive_faults.Tie as tie
 
-not-one-requires : tie.Need-not-one-requires
-not-one-requires c κs = search needs
-
-returns : tie.Need-returns
-returns c = search (hit, skip) depth 12
-
-not-date-requires : tie.Need-not-date-requires
-not-date-requires c κs = search needs
-
-returns-2 : tie.Need-returns-2
-returns-2 c = search (hit, skip) depth 12
-
-not-date-requires-2 : tie.Need-not-date-requires-2
-not-date-requires-2 c κs = search needs
-
-returns-3 : tie.Need-returns-3
-returns-3 c = search (hit, skip) depth 12
-
-returns-4 : tie.Need-returns-4
-returns-4 c = search (hit, skip) depth 12
-
 pub archive-faults-spec : {M : Type 1} → statement M
 archive-faults-spec =
     tie.close
-    (tie.spec
-    not-one-requires
-    returns
-    not-date-requires
-    returns-2
-    not-date-requires-2
-    returns-3
-    returns-4)
+    (tie.spec (λ c κs. search needs) (λ c. search (hit, skip) depth 12) (λ c κs. search needs) (λ c. search (hit, skip) depth 12)
+    (λ c κs. search needs) (λ c. search (hit, skip) depth 12) (λ c. search (hit, skip) depth 12))

@@ -1,0 +1,3 @@
+pub mod Sized
+pub mod RequestEdges
+pub mod ReplyEdges

@@ -1,0 +1,14 @@
+-- `pulsar_frame::refuse::meter_fault` meets its contract.
+-- Assumes nothing.
+use Rattle.wire.proofs.Refusal.{hit, skip}
+use borrow.Author.Needs.{needs}
+use Rattle.pulsar_frame.proofs.refuse.meter_fault.Statement.{statement}
+use Rattle.pulsar_frame.proofs.refuse.meter_fault.Tie as tie
+
+pub meter-fault-spec : {M : Type 1} → statement M
+meter-fault-spec =
+    tie.close
+    (tie.spec (λ c κs. search needs) (λ c. search (hit, skip) depth 12) (λ c κs. search needs) (λ c. search (hit, skip) depth 12)
+    (λ c κs. search needs) (λ c. search (hit, skip) depth 12) (λ c κs. search needs) (λ c. search (hit, skip) depth 12)
+    (λ c κs. search needs) (λ c. search (hit, skip) depth 12) (λ c κs. search needs) (λ c. search (hit, skip) depth 12)
+    (λ c κs. search needs) (λ c. search (hit, skip) depth 12) (λ c. search skip depth 12))

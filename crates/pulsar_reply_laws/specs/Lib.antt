@@ -1,2 +1,0 @@
-pub mod Sized
-pub mod Edges
