@@ -53,6 +53,10 @@ def channel_of(numbers, strings):
     return told(0, readings.channel_of(mask, place), len(readings.channels(mask)))
 
 
+def is_same(numbers, strings):
+    return told(0, int(readings.same(*numbers)))
+
+
 def collect(numbers, strings):
     state = pulsar_line.fresh()
     for byte in strings[0]:
@@ -168,6 +172,7 @@ ACTS = {
     5: ("read_value", [11], reader(readings.read_value)),
     6: ("first_absent", [1, 11], first_absent),
     7: ("channel_of", [], channel_of),
+    8: ("is_same", [], is_same),
     10: ("read_at_meter", [1, 2, 3, 4, 5, 6, 7], reader(pulsar_frame.read_at_meter)),
     11: ("read_at_master", [1, 2, 3, 6, 7, 4, 5, 8], reader(pulsar_frame.read_at_master)),
     12: ("write_request", [1, 17, 16], writer(pulsar_frame.write_request)),
@@ -188,4 +193,5 @@ ACTS = {
     43: ("receive", [20, 21, 22, 23, 24, 25, 26, 27, 28, 29, 30, 31], receive),
     50: ("read_card", [50, 51, 52, 53, 54], reader(card.read_card)),
     51: ("write_card", [52, 53, 55, 16], write_card),
+    52: ("put_line", [16], writer(card.put_line)),
 }

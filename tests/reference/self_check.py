@@ -93,6 +93,8 @@ def edges():
     same("month 12", pulsar_body.read_reply(4, 4, 0, bytes([0, 12, 1, 0, 0, 0]))[0], 0)
     same("month 13", pulsar_body.read_reply(4, 4, 0, bytes([0, 13, 1, 0, 0, 0]))[0], 13)
     same("31 February", is_date(bytes([23, 2, 31, 0, 0, 0])), True)
+    same("a NaN beside itself", readings.same(0, 0x7FC00000, 0, 0x7FC00000), True)
+    same("both zeros", readings.same(0, 0, 0, 0x80000000), False)
     same("01's card", card.read_card(CARD), (0, (1, 1, 0, 1, 1, 0, 0, 0, 2, 5)))
     same("01's card written", card.write_card(1, 1, (0, 1, 1, 0, 0, 0), 2, 5, bytes(17)), (0, 17, CARD))
     part = bytes(range(68))
@@ -108,6 +110,7 @@ def edges():
 
 def lister():
     same("01's listing", card.listing(CARD), LISTING)
+    same("01's card's line", card.put_line(0, CARD, bytes(50)), (0, 50, LISTING.splitlines(True)[1].encode()))
     same("no input", card.listing(b""), "address;channel;time;kind;bits\n")
     same("a short last card", card.listing(CARD + CARD[:16]), LISTING + "refused 50\n")
 

@@ -1,4 +1,4 @@
-"""Cases for the reading card (acts 50 and 51), and the lister's input."""
+"""Cases for the reading card and its line (acts 50 to 52), and the lister's input."""
 import card as reference
 from cases.ground import edge_dates, random_date
 from cases.making import date_number, flipped, pattern, with_faults
@@ -81,7 +81,24 @@ def write_card(rng):
         yield *card_number({**plan, "address": rng.randint(1, HIGHEST), "channel": rng.randint(1, 32)}), 0
 
 
-CASES = {50: read_card, 51: write_card}
+def put_line(rng):
+    """Each line with no room, with a byte too few, with room for it exactly, and with more."""
+    good = {**GOOD, "received": None, "after": b""}
+    plans = [{**good, "channel less one": channel} for channel in (0, 8, 9, 31)]
+    plans += [{**good, "address": address} for address in (1, HIGHEST)]
+    plans += [{**good, "kind": kind, "value bits": bits} for kind in range(4) for bits in (0, 2 ** 32 - 1)]
+    plans += [{**good, "kind": kind, "value bits": 2 ** 64 - 1} for kind in (1, 3)]
+    plans += [dated(good, (0, 1, 1, 0, 0, 0)), dated(good, (99, 12, 31, 23, 59, 59))]
+    plans += [{**good, **fault} for fault in ({"received": 16}, {"received": 0}, {"spare": 1}, {"address": 0}, {"month": 13}, {"value bits": 2 ** 32})]
+    lines = [(0, packed(plan)[1][0]) for plan in plans]
+    lines += [(refusal, FIRST) for refusal in (1, 9, 10, 50, 55, 99, 100, 255)]
+    for refusal, card in lines:
+        length = len(reference.refused_line(refusal) if refusal else reference.line(card)) + 1
+        for room in (0, length - 1, length, length + 1, length + 20):
+            yield [refusal], [card, pattern(room, 0x31)], 16 if room < length else 0
+
+
+CASES = {50: read_card, 51: write_card, 52: put_line}
 
 
 def lister_input(rng):

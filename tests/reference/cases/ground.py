@@ -1,4 +1,5 @@
-"""Cases for the checksum, dates and readings (acts 1 to 7)."""
+"""Cases for the checksum, dates and readings (acts 1 to 8)."""
+from cases.making import pattern
 from crc import crc16, low_byte_first
 from dates import RANGES
 
@@ -25,6 +26,8 @@ def checksum(rng):
         yield [], [message], 0
     for byte in range(256):
         yield [], [bytes([byte])], 0
+    for length in (4095, 4096, 4097, 65535):
+        yield [], [pattern(length)], 0
     for _ in range(20):
         message = rng.randbytes(rng.randrange(24))
         yield [], [message], 0
@@ -136,4 +139,19 @@ def channel_of(rng):
             yield [mask, place], [], 0
 
 
-CASES = {1: checksum_from, 2: checksum, 3: dates, 4: value_at, 5: read_value, 6: first_absent, 7: channel_of}
+def is_same(rng):
+    """Each value beside itself, beside itself with one bit changed, beside the same bits in each other kind, beside each other value."""
+    for kind in range(4):
+        width = 8 if kind % 2 else 4
+        values = [int.from_bytes(value, "little") for value in (VALUES_8 if kind % 2 else VALUES_4)]
+        for bits in values:
+            yield [kind, bits, kind, bits], [], 0
+            for bit in (0, 8 * width - 1, rng.randrange(8 * width)):
+                yield [kind, bits, kind, bits ^ 1 << bit], [], 0
+            for other in range(4):
+                if other % 2 or bits < 2 ** 32:
+                    yield [kind, bits, other, bits], [], 0
+            yield [kind, bits, kind, rng.choice(values)], [], 0
+
+
+CASES = {1: checksum_from, 2: checksum, 3: dates, 4: value_at, 5: read_value, 6: first_absent, 7: channel_of, 8: is_same}
