@@ -1,0 +1,206 @@
+/* drive check: both give the same answers on the same inputs, good and bad ones; the first difference ends it with 1.
+   drive rattle|plain WORK N REPS: does one work REPS times, for counting. */
+#include "bench.h"
+#include <stdio.h>
+#include <stdlib.h>
+#include <string.h>
+
+/* Never two calls whose order C leaves open: every compiler draws the same numbers. */
+static uint64_t seed = 1;
+static uint32_t chance(uint32_t below)
+{
+    seed = seed * 6364136223846793005u + 1442695040888963407u;
+    return (seed >> 33) % below;
+}
+
+static void random_bytes(uint8_t *p, size_t n) { while (n--) *p++ = chance(256); }
+static void put_le16(uint8_t *p, uint16_t v) { p[0] = v, p[1] = v >> 8; }
+
+/* A good frame of len bytes to the address 12345678. */
+static void make_frame(uint8_t *p, size_t len)
+{
+    static const uint8_t address[4] = {0x12, 0x34, 0x56, 0x78};
+    random_bytes(p, len);
+    memcpy(p, address, 4);
+    p[4] = 1 + chance(255);
+    p[5] = len;
+    put_le16(p + len - 2, plain_checksum(p, len - 2));
+}
+
+/* The CRC16 from 0000: a sum from FFFF over the frame with its first two bytes inverted is one from 0000 over the frame. */
+static uint16_t sum_from_0(const uint8_t *p, size_t n)
+{
+    uint8_t copy[300];
+    memcpy(copy, p, n);
+    copy[0] ^= 255, copy[1] ^= 255;
+    return plain_checksum(copy, n);
+}
+
+static void make_part(uint8_t *p, uint16_t session, uint32_t offset, uint16_t flags, size_t size)
+{
+    random_bytes(p + 12, size);
+    put_le16(p, session), put_le16(p + 2, offset), put_le16(p + 4, offset >> 16), put_le16(p + 6, size), put_le16(p + 8, 0), put_le16(p + 10, flags);
+    put_le16(p + 8, sum_from_0(p, 12 + size));
+}
+
+static struct fields make_fields(void)
+{
+    struct fields c = {0};
+    c.address = 1 + chance(99999999);
+    c.channel = 1 + chance(32);
+    c.year = chance(100);
+    c.month = 1 + chance(12);
+    c.day = 1 + chance(31);
+    c.hour = chance(24);
+    c.minute = chance(60);
+    c.second = chance(60);
+    c.kind = chance(4);
+    for (int i = 0; i < (c.kind & 1 ? 8 : 4); i++) c.bits = c.bits << 8 | chance(256);
+    return c;
+}
+
+static void damage(uint8_t *p, size_t n)
+{
+    size_t at = chance(n);
+    p[at] ^= 1 << chance(8);
+}
+
+static void differ(const char *what)
+{
+    fprintf(stderr, "%s: Rattle and C answer differently\n", what);
+    exit(1);
+}
+
+static void check_frame(uint32_t own, const uint8_t *p, size_t n, unsigned *good)
+{
+    struct frame a = rattle_read_at_meter(own, p, n), b = plain_read_at_meter(own, p, n);
+    if (a.refused != b.refused || a.function != b.function || a.id != b.id || a.address != b.address || a.len != b.len) differ("read_at_meter");
+    *good += !a.refused;
+}
+
+static void check_receive(uint16_t session, bool under_way, size_t count, const uint8_t *p, size_t n, size_t room, unsigned *good)
+{
+    uint8_t one[1000], other[1000];
+    memset(one, 0x5A, sizeof one), memset(other, 0x5A, sizeof other);
+    struct step a = rattle_receive(session, under_way, count, p, n, one, room), b = plain_receive(session, under_way, count, p, n, other, room);
+    if (a.refused != b.refused || a.complete != b.complete || a.under_way != b.under_way || a.session != b.session || a.reached != b.reached
+        || a.count != b.count || memcmp(one, other, sizeof one)) differ("receive");
+    *good += !a.refused;
+}
+
+static void check_read_card(const uint8_t *p, size_t n, unsigned *good)
+{
+    struct fields a = rattle_read_card(p, n), b = plain_read_card(p, n);
+    if (a.refused != b.refused || a.channel != b.channel || a.year != b.year || a.month != b.month || a.day != b.day || a.hour != b.hour
+        || a.minute != b.minute || a.second != b.second || a.kind != b.kind || a.address != b.address || a.bits != b.bits) differ("read_card");
+    *good += !a.refused;
+}
+
+static void check_write_card(struct fields c, size_t room, unsigned *good)
+{
+    uint8_t one[40], other[40];
+    memset(one, 0x5A, sizeof one), memset(other, 0x5A, sizeof other);
+    uint8_t a = rattle_write_card(c, one, room), b = plain_write_card(c, other, room);
+    if (a != b || memcmp(one, other, sizeof one)) differ("write_card");
+    *good += !a;
+}
+
+static int check(void)
+{
+    static uint8_t p[10000];
+    unsigned frames = 0, received = 0, read = 0, written = 0;
+    for (size_t n = 0; n < 600; n++) {
+        random_bytes(p, n);
+        if (rattle_checksum(p, n) != plain_checksum(p, n)) differ("checksum");
+    }
+    for (int i = 0; i < 20000; i++) {
+        size_t len = 10 + chance(246), more = chance(3), size = 1 + chance(240);
+        uint32_t own = chance(100000001);
+        make_frame(p, len);
+        check_frame(12345678, p, len + more, &frames);
+        damage(p, len);
+        check_frame(12345678, p, len, &frames);
+        check_frame(own, p, chance(20), &frames);
+
+        uint16_t flags = chance(9) ? 2 * chance(4) : chance(16);
+        size_t count = 1 + chance(400), offset = chance(2) ? count : chance(500);
+        if (flags & 2 && chance(4)) offset = 0;
+        bool under_way = chance(9), held = chance(9);
+        size_t room = 300 + chance(700);
+        make_part(p, 7, offset, flags, size);
+        check_receive(chance(9) ? 7 : 8, under_way, held ? count : 0, p, 12 + size, room, &received);
+        damage(p, 12 + size);
+        check_receive(7, true, count, p, 12 + size - chance(2), 1000, &received);
+
+        struct fields c = make_fields();
+        check_write_card(c, 16 + chance(10), &written);
+        plain_write_card(c, p, 17);
+        check_read_card(p, 17, &read);
+        damage(p, 17);
+        check_read_card(p, 17 - !chance(9), &read);
+        random_bytes((uint8_t *)&c, sizeof c);
+        c.refused = 0, c.kind &= 3;
+        check_write_card(c, 17, &written);
+        c = make_fields();
+        switch (chance(8)) {
+        case 0: c.address = chance(2) ? 0 : 99999999 + chance(2); break;
+        case 1: c.channel = chance(2) ? 0 : 32 + chance(2); break;
+        case 2: c.year = 99 + chance(2); break;
+        case 3: c.month = chance(2) ? 0 : 12 + chance(2); break;
+        case 4: c.day = chance(2) ? 0 : 31 + chance(2); break;
+        case 5: c.hour = 23 + chance(2); break;
+        case 6: c.minute = 59 + chance(2); break;
+        default: c.second = 59 + chance(2);
+        }
+        check_write_card(c, 17, &written);
+    }
+    fprintf(stderr, "the same answers: 600 checksums, 60,000 frames (%u accepted), 40,000 parts (%u), 40,000 cards read (%u) and 60,000 written (%u)\n",
+            frames, received, read, written);
+    if (frames < 20000 || received < 1000 || read < 20000 || written < 20000) {
+        fprintf(stderr, "too few inputs are accepted\n");
+        return 1;
+    }
+    return 0;
+}
+
+#define BOTH(name, ...) (us ? rattle_##name(__VA_ARGS__) : plain_##name(__VA_ARGS__))
+
+int main(int argc, char **argv)
+{
+    static uint8_t p[17 * 400 + 10000], buffer[1000];
+    static struct fields cards[400];
+    uint64_t sum = 0;
+    if (argc == 2) return check();
+    bool us = argv[1][0] == 'r';
+    const char *work = argv[2];
+    size_t n = atol(argv[3]), reps = atol(argv[4]);
+    if (!strcmp(work, "cards")) { /* cards for the lister, on standard output */
+        for (size_t i = 0; i < n; i++) {
+            plain_write_card(make_fields(), p, 17);
+            fwrite(p, 17, 1, stdout);
+        }
+        return 0;
+    }
+    if (!strcmp(work, "checksum")) {
+        random_bytes(p, n);
+        while (reps--) sum += BOTH(checksum, p, n);
+    } else if (!strcmp(work, "frame")) {
+        make_frame(p, n);
+        while (reps--) sum += BOTH(read_at_meter, 12345678, p, n).len;
+    } else if (!strcmp(work, "receive")) {
+        make_part(p, 7, 240, 0, n);
+        while (reps--) sum += BOTH(receive, 7, true, 240, p, 12 + n, buffer, sizeof buffer).count;
+    } else {
+        for (int i = 0; i < 400; i++) {
+            cards[i] = make_fields();
+            plain_write_card(cards[i], p + 17 * i, 17);
+        }
+        bool read = !strcmp(work, "read");
+        for (size_t r = 0; r < reps; r++)
+            for (size_t i = 0; i < n; i++)
+                if (read) sum += BOTH(read_card, p + 17 * i, 17).bits;
+                else sum += BOTH(write_card, cards[i], buffer, 17) + buffer[3];
+    }
+    printf("%llu\n", (unsigned long long)sum);
+    return 0;
+}
