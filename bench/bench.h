@@ -4,6 +4,7 @@
 #include <stdint.h>
 
 struct frame { uint8_t refused, function; uint16_t id; uint32_t address; size_t len; };
+struct rtu { uint8_t refused, address, function; };
 struct step { uint8_t refused; bool complete, under_way; uint16_t session; size_t reached, count; };
 struct fields { uint8_t refused, channel, year, month, day, hour, minute, second, kind; uint32_t address; uint64_t bits; };
 
@@ -11,6 +12,8 @@ uint16_t rattle_checksum(const uint8_t *bytes, size_t n);
 uint16_t plain_checksum(const uint8_t *bytes, size_t n);
 struct frame rattle_read_at_meter(uint32_t own, const uint8_t *bytes, size_t n);
 struct frame plain_read_at_meter(uint32_t own, const uint8_t *bytes, size_t n);
+struct rtu rattle_read_rtu(const uint8_t *bytes, size_t n);
+struct rtu plain_read_rtu(const uint8_t *bytes, size_t n);
 struct step rattle_receive(uint16_t session, bool under_way, size_t count, const uint8_t *frame, size_t n, uint8_t *buffer, size_t room);
 struct step plain_receive(uint16_t session, bool under_way, size_t count, const uint8_t *frame, size_t n, uint8_t *buffer, size_t room);
 struct fields rattle_read_card(const uint8_t *bytes, size_t n);

@@ -27,6 +27,12 @@ static void make_frame(uint8_t *p, size_t len)
     put_le16(p + len - 2, plain_checksum(p, len - 2));
 }
 
+static void make_rtu(uint8_t *p, size_t n)
+{
+    random_bytes(p, n - 2);
+    put_le16(p + n - 2, plain_checksum(p, n - 2));
+}
+
 /* The CRC16 from 0000: a sum from FFFF over the frame with its first two bytes inverted is one from 0000 over the frame. */
 static uint16_t sum_from_0(const uint8_t *p, size_t n)
 {
@@ -78,6 +84,13 @@ static void check_frame(uint32_t own, const uint8_t *p, size_t n, unsigned *good
     *good += !a.refused;
 }
 
+static void check_rtu(const uint8_t *p, size_t n, unsigned *good)
+{
+    struct rtu a = rattle_read_rtu(p, n), b = plain_read_rtu(p, n);
+    if (a.refused != b.refused || a.address != b.address || a.function != b.function) differ("read_rtu");
+    *good += !a.refused;
+}
+
 static void check_receive(uint16_t session, bool under_way, size_t count, const uint8_t *p, size_t n, size_t room, unsigned *good)
 {
     uint8_t one[1000], other[1000];
@@ -108,7 +121,7 @@ static void check_write_card(struct fields c, size_t room, unsigned *good)
 static int check(void)
 {
     static uint8_t p[10000];
-    unsigned frames = 0, received = 0, read = 0, written = 0;
+    unsigned frames = 0, lines = 0, received = 0, read = 0, written = 0;
     for (size_t n = 0; n < 600; n++) {
         random_bytes(p, n);
         if (rattle_checksum(p, n) != plain_checksum(p, n)) differ("checksum");
@@ -121,6 +134,13 @@ static int check(void)
         damage(p, len);
         check_frame(12345678, p, len, &frames);
         check_frame(own, p, chance(20), &frames);
+
+        size_t line = 4 + chance(254);
+        make_rtu(p, line);
+        check_rtu(p, line, &lines);
+        damage(p, line);
+        check_rtu(p, line, &lines);
+        check_rtu(p, chance(5), &lines);
 
         uint16_t flags = chance(9) ? 2 * chance(4) : chance(16);
         size_t count = 1 + chance(400), offset = chance(2) ? count : chance(500);
@@ -154,9 +174,9 @@ static int check(void)
         }
         check_write_card(c, 17, &written);
     }
-    fprintf(stderr, "the same answers: 600 checksums, 60,000 frames (%u accepted), 40,000 parts (%u), 40,000 cards read (%u) and 60,000 written (%u)\n",
-            frames, received, read, written);
-    if (frames < 20000 || received < 1000 || read < 20000 || written < 20000) {
+    fprintf(stderr, "the same answers: 600 checksums, 60,000 frames (%u accepted), 60,000 RTU lines (%u), 40,000 parts (%u), 40,000 cards read (%u) and 60,000 written (%u)\n",
+            frames, lines, received, read, written);
+    if (frames < 20000 || lines < 19000 || received < 1000 || read < 20000 || written < 20000) {
         fprintf(stderr, "too few inputs are accepted\n");
         return 1;
     }
@@ -187,6 +207,9 @@ int main(int argc, char **argv)
     } else if (!strcmp(work, "frame")) {
         make_frame(p, n);
         while (reps--) sum += BOTH(read_at_meter, 12345678, p, n).len;
+    } else if (!strcmp(work, "rtu")) {
+        make_rtu(p, n);
+        while (reps--) sum += BOTH(read_rtu, p, n).function;
     } else if (!strcmp(work, "receive")) {
         make_part(p, 7, 240, 0, n);
         while (reps--) sum += BOTH(receive, 7, true, 240, p, 12 + n, buffer, sizeof buffer).count;

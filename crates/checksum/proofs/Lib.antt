@@ -1,3 +1,5 @@
+pub mod Xor
 pub mod Laws
+pub mod Table
 pub mod Edges
 pub mod Unique

@@ -1,35 +1,53 @@
 // CRC-16 with the reflected polynomial A001, low bit first, no final change. It is sent low byte first.
 ghost use mathlib.Core.Path.{_≡_};
 ghost use Rattle.checksum.specs.Crc.{crcBits, crcByte, crcFrom, crc};
+ghost use Rattle.checksum.specs.Table.{fours};
 
-// n bits of the remainder c.
-fn bits(c: u16, n: usize) -> u16
-    ensures { λ r. ⌜ r ≡ crcBits n c ⌝ }
+// Four bits of each remainder below 16. It is laid out once for a message and lent: indexed where it stands, it would be laid out at each step.
+const FOUR: [u16; 16] = [
+    0x0000,
+    0xCC01,
+    0xD801,
+    0x1400,
+    0xF001,
+    0x3C00,
+    0x2800,
+    0xE401,
+    0xA001,
+    0x6C00,
+    0x7800,
+    0xB401,
+    0x5000,
+    0x9C01,
+    0x8801,
+    0x4400,
+];
+
+// Four bits of the remainder c: the lowest choose the entry, the others move down.
+fn four_bits(table: &[u16], c: u16) -> u16
+    requires { ⌜ now table ≡ fours ⌝ }
+    ensures { λ r. ⌜ r ≡ crcBits 4 c ⌝ }
 {
-    let mut r = c;
-    let mut i = 0;
-    while i < n {
-        r = (r / 2) ^ (r % 2 * 0xA001);
-        i += 1;
-    }
-    r
+    (c / 16) ^ table[(c % 16) as usize]
 }
 
-// One byte more.
-fn add_byte(c: u16, b: u8) -> u16
+// One byte more: its low half, then its high half.
+fn add_byte(table: &[u16], c: u16, b: u8) -> u16
+    requires { ⌜ now table ≡ fours ⌝ }
     ensures { λ r. ⌜ r ≡ crcByte c b ⌝ }
 {
-    bits(c ^ b as u16, 8)
+    four_bits(table, four_bits(table, c ^ b as u16))
 }
 
 // From a start value: a message in several stretches is summed one stretch after the other. An SM160 frame starts from 0000.
 pub fn checksum_from(start: u16, bytes: &[u8]) -> u16
     ensures { λ r. ⌜ r ≡ crcFrom start (now (bytes .entry)) ⌝ }
 {
+    let table = FOUR;
     let mut c = start;
     let mut i = 0;
     while i < bytes.len() {
-        c = add_byte(c, bytes[i]);
+        c = add_byte(&table, c, bytes[i]);
         i += 1;
     }
     c
