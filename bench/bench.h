@@ -10,6 +10,8 @@ struct fields { uint8_t refused, channel, year, month, day, hour, minute, second
 
 uint16_t rattle_checksum(const uint8_t *bytes, size_t n);
 uint16_t plain_checksum(const uint8_t *bytes, size_t n);
+uint16_t rattle_checksum_from(uint16_t start, const uint8_t *bytes, size_t n);
+uint16_t plain_checksum_from(uint16_t start, const uint8_t *bytes, size_t n);
 struct frame rattle_read_at_meter(uint32_t own, const uint8_t *bytes, size_t n);
 struct frame plain_read_at_meter(uint32_t own, const uint8_t *bytes, size_t n);
 struct rtu rattle_read_rtu(const uint8_t *bytes, size_t n);

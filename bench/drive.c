@@ -33,20 +33,11 @@ static void make_rtu(uint8_t *p, size_t n)
     put_le16(p + n - 2, plain_checksum(p, n - 2));
 }
 
-/* The CRC16 from 0000: a sum from FFFF over the frame with its first two bytes inverted is one from 0000 over the frame. */
-static uint16_t sum_from_0(const uint8_t *p, size_t n)
-{
-    uint8_t copy[300];
-    memcpy(copy, p, n);
-    copy[0] ^= 255, copy[1] ^= 255;
-    return plain_checksum(copy, n);
-}
-
 static void make_part(uint8_t *p, uint16_t session, uint32_t offset, uint16_t flags, size_t size)
 {
     random_bytes(p + 12, size);
     put_le16(p, session), put_le16(p + 2, offset), put_le16(p + 4, offset >> 16), put_le16(p + 6, size), put_le16(p + 8, 0), put_le16(p + 10, flags);
-    put_le16(p + 8, sum_from_0(p, 12 + size));
+    put_le16(p + 8, plain_checksum_from(0, p, 12 + size));
 }
 
 static struct fields make_fields(void)
@@ -125,6 +116,9 @@ static int check(void)
     for (size_t n = 0; n < 600; n++) {
         random_bytes(p, n);
         if (rattle_checksum(p, n) != plain_checksum(p, n)) differ("checksum");
+        size_t cut = chance(n + 1);
+        uint16_t start = chance(65536);
+        if (rattle_checksum_from(rattle_checksum_from(start, p, cut), p + cut, n - cut) != plain_checksum_from(start, p, n)) differ("checksum_from");
     }
     for (int i = 0; i < 20000; i++) {
         size_t len = 10 + chance(246), more = chance(3), size = 1 + chance(240);
@@ -174,7 +168,7 @@ static int check(void)
         }
         check_write_card(c, 17, &written);
     }
-    fprintf(stderr, "the same answers: 600 checksums, 60,000 frames (%u accepted), 60,000 RTU lines (%u), 40,000 parts (%u), 40,000 cards read (%u) and 60,000 written (%u)\n",
+    fprintf(stderr, "the same answers: 600 checksums, as many in two stretches, 60,000 frames (%u accepted), 60,000 RTU lines (%u), 40,000 parts (%u), 40,000 cards read (%u) and 60,000 written (%u)\n",
             frames, lines, received, read, written);
     if (frames < 20000 || lines < 19000 || received < 1000 || read < 20000 || written < 20000) {
         fprintf(stderr, "too few inputs are accepted\n");
@@ -204,6 +198,12 @@ int main(int argc, char **argv)
     if (!strcmp(work, "checksum")) {
         random_bytes(p, n);
         while (reps--) sum += BOTH(checksum, p, n);
+    } else if (!strcmp(work, "stretches")) {
+        random_bytes(p, n);
+        while (reps--) {
+            uint16_t c = BOTH(checksum, p, n / 2);
+            sum += BOTH(checksum_from, c, p + n / 2, n - n / 2);
+        }
     } else if (!strcmp(work, "frame")) {
         make_frame(p, n);
         while (reps--) sum += BOTH(read_at_meter, 12345678, p, n).len;

@@ -39,6 +39,12 @@ def checksum(numbers, strings):
     return told(0, crc16(strings[0]))
 
 
+def stretches(numbers, strings):
+    """What 02 asks of the two calls: the sum of the first stretch, and then that of the whole."""
+    first, second = strings
+    return told(0, crc16(first, start=numbers[0]), crc16(first + second, start=numbers[0]))
+
+
 def date(numbers, strings):
     return told(0, int(is_date(strings[0])))
 
@@ -173,6 +179,7 @@ ACTS = {
     6: ("first_absent", [1, 11], first_absent),
     7: ("channel_of", [], channel_of),
     8: ("is_same", [], is_same),
+    9: ("stretches", [], stretches),
     10: ("read_at_meter", [1, 2, 3, 4, 5, 6, 7], reader(pulsar_frame.read_at_meter)),
     11: ("read_at_master", [1, 2, 3, 6, 7, 4, 5, 8], reader(pulsar_frame.read_at_master)),
     12: ("write_request", [1, 17, 16], writer(pulsar_frame.write_request)),

@@ -3,3 +3,4 @@ pub mod Laws
 pub mod Table
 pub mod Edges
 pub mod Unique
+pub mod Stretches

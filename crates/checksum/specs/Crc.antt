@@ -18,7 +18,7 @@ crcBits (suc n) c = crcBits n (crcBit c)
 abbrev pub crcByte : ℕ → ℕ → ℕ
 crcByte c b = crcBits 8 (bitXor c b)
 
--- the bytes of a message after a remainder c
+-- "The checksum should take the value to start from": the bytes of a message after the remainder c
 unfoldable pub crcFrom : ℕ → List ℕ → ℕ
 crcFrom c [] = c
 crcFrom c (b ∷ bs) = crcFrom (crcByte c b) bs

@@ -3,5 +3,6 @@ pub mod Answers
 pub mod Fields
 pub mod RoundTrip
 pub mod Order
+pub mod Stretches
 pub mod Edges
 pub mod Unique

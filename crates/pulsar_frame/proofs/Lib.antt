@@ -3,6 +3,7 @@ pub mod Parts
 pub mod Readers
 pub mod RoundTrip
 pub mod Beyond
+pub mod Stretches
 pub mod Order
 pub mod Edges
 pub mod Unique

@@ -1,7 +1,9 @@
-"""Cases for the checksum, dates and readings (acts 1 to 8)."""
-from cases.making import pattern
+"""Cases for the checksum, dates and readings (acts 1 to 9)."""
+from cases.making import flipped, pattern
 from crc import crc16, low_byte_first
 from dates import RANGES
+from modbus import rtu_bytes
+from pulsar_frame import frame_bytes
 
 WIDEST = 2 ** 64 - 1
 MESSAGES = [b"", b"\x00", b"\xFF", b"123456789", bytes(16), b"\xFF" * 16, bytes(range(256))]
@@ -32,6 +34,25 @@ def checksum(rng):
         message = rng.randbytes(rng.randrange(24))
         yield [], [message], 0
         yield [], [message + low_byte_first(crc16(message))], 0
+
+
+def stretches(rng):
+    """A message in two buffers: cut at every place, at its ends too; the longer ones there and in the middle."""
+    for start in (0xFFFF, 0x0000):
+        for length in range(21):
+            message = rng.randbytes(length)
+            for cut in range(length + 1):
+                yield [start], [message[:cut], message[cut:]], 0
+        for length in (255, 256, 1000, 4096):
+            message = pattern(length)
+            for cut in (0, 1, length // 2, length - 2, length - 1, length):
+                yield [start], [message[:cut], message[cut:]], 0
+    # a Pulsar-M frame and an RTU line, whose CRC is within one buffer or cut itself; and with one bit changed
+    for whole in (frame_bytes(12_345_678, 6, 0xA55A, pattern(4)), rtu_bytes(17, 3, pattern(4))):
+        for cut in range(len(whole) + 1):
+            yield [0xFFFF], [whole[:cut], whole[cut:]], 0
+            broken = flipped(whole, rng.randrange(8 * len(whole)))
+            yield [0xFFFF], [broken[:cut], broken[cut:]], 0
 
 
 GOOD_DATE = bytes([23, 2, 28, 12, 30, 30])
@@ -154,4 +175,4 @@ def is_same(rng):
             yield [kind, bits, kind, rng.choice(values)], [], 0
 
 
-CASES = {1: checksum_from, 2: checksum, 3: dates, 4: value_at, 5: read_value, 6: first_absent, 7: channel_of, 8: is_same}
+CASES = {1: checksum_from, 2: checksum, 3: dates, 4: value_at, 5: read_value, 6: first_absent, 7: channel_of, 8: is_same, 9: stretches}
