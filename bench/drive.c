@@ -47,7 +47,7 @@ static struct fields make_fields(void)
     c.channel = 1 + chance(32);
     c.year = chance(100);
     c.month = 1 + chance(12);
-    c.day = 1 + chance(31);
+    c.day = 1 + chance(28);
     c.hour = chance(24);
     c.minute = chance(60);
     c.second = chance(60);
@@ -161,7 +161,7 @@ static int check(void)
         case 1: c.channel = chance(2) ? 0 : 32 + chance(2); break;
         case 2: c.year = 99 + chance(2); break;
         case 3: c.month = chance(2) ? 0 : 12 + chance(2); break;
-        case 4: c.day = chance(2) ? 0 : 31 + chance(2); break;
+        case 4: c.day = chance(2) ? 28 + chance(5) : 0; break;
         case 5: c.hour = 23 + chance(2); break;
         case 6: c.minute = 59 + chance(2); break;
         default: c.second = 59 + chance(2);

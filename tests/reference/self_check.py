@@ -1,4 +1,7 @@
-"""The reference against what it was not made from: printed traffic, published check values, 01's edges and its card."""
+"""The reference against what it was not made from: printed traffic, published check values, 01's edges and its card, python's calendar."""
+import calendar
+import itertools
+
 import card
 import modbus
 import pulsar_body
@@ -92,7 +95,6 @@ def edges():
     same("mask 0, empty body", pulsar_body.read_reply(1, 4, 0, b"")[0], 12)
     same("month 12", pulsar_body.read_reply(4, 4, 0, bytes([0, 12, 1, 0, 0, 0]))[0], 0)
     same("month 13", pulsar_body.read_reply(4, 4, 0, bytes([0, 13, 1, 0, 0, 0]))[0], 13)
-    same("31 February", is_date(bytes([23, 2, 31, 0, 0, 0])), True)
     same("a NaN beside itself", readings.same(0, 0x7FC00000, 0, 0x7FC00000), True)
     same("both zeros", readings.same(0, 0, 0, 0x80000000), False)
     same("01's card", card.read_card(CARD), (0, (1, 1, 0, 1, 1, 0, 0, 0, 2, 5)))
@@ -122,8 +124,15 @@ def collector():
     same("the 256th byte is dropped", pulsar_line.silence(state), (0, (bytes(range(255)), (bytes(255), 0))))
 
 
+def dates():
+    """Every year, month and day that a byte can be of the century and a little more, beside python's calendar."""
+    for year, month, day in itertools.product(range(101), range(14), range(33)):
+        due = year < 100 and 1 <= month <= 12 and 1 <= day <= calendar.monthrange(2000 + year, month)[1]
+        same(f"{2000 + year}-{month}-{day} is a date", is_date((year, month, day, 0, 0, 0)), due)
+
+
 def check():
-    for one in (checksums, printed_frames, printed_sessions, modbus_examples, edges, lister, collector):
+    for one in (checksums, printed_frames, printed_sessions, modbus_examples, edges, lister, collector, dates):
         one()
 
 

@@ -1,6 +1,6 @@
--- A date written reads back, and six bytes read are written again; no date is none; both ends of the month.
+-- A date written reads back, and six bytes read are written again; no date is none; which days are dates.
 -- Assumes nothing.
-use mathlib.Core.Path.{_≡_, refl}
+use mathlib.Core.Path.{_≡_, refl, ap, _∙_}
 use mathlib.Core.Bool.{Bool, true, false, _&&_}
 use mathlib.Core.List.{List}
 use Prim.Native.Nat.{ℕ, _≤_}
@@ -9,8 +9,10 @@ use lib.Dec.{eqb, leb}
 use borrow.Author.Tests.{eqb-true, ne-eqb, leb-true}
 use Rattle.wire.proofs.Bools.{and-both, no-and}
 use Rattle.wire.specs.Numbers.{field}
-use Rattle.date.specs.Date.{dateBytes, dateOf, within, isDate, noDate, isNoDate, Ranges}
+use Rattle.date.specs.Months.{daysOf}
+use Rattle.date.specs.Date.{dateBytes, dateOf, within, isDate, onDay, noDate, isNoDate, Ranges}
 use Rattle.date.specs.declared.DateTime.{DateTime}
+use Rattle.date.proofs.Months.{days-most}
 
 pub date-reads-back : (d : DateTime) → dateOf (dateBytes d) ≡ d
 date-reads-back d = refl
@@ -45,18 +47,39 @@ all-six a b c d e f h =
     let t₁ = and-both a b (t₂ .0) in
     (t₁ .0, t₁ .1, t₂ .1, t₃ .1, t₄ .1, t₅ .1)
 
+and-true : (a b : Bool) → b ≡ true → (a && b) ≡ a
+and-true true b e = e
+and-true false b e = refl
+
+the-third : (a b c d e f : Bool) → a ≡ true → b ≡ true → d ≡ true → e ≡ true → f ≡ true → (a && b && c && d && e && f) ≡ c
+the-third a b c d e f p q r s t = and-true _ f t ∙ and-true _ e s ∙ and-true _ d r ∙ ap (λ (x : Bool). x && c) (and-true a b q ∙ p)
+
+all-tests : (d : DateTime) → isDate d ≡ true
+    → (within 0 (d .year) 99 ≡ true) × (within 1 (d .month) 12 ≡ true) × (within 1 (d .day) (daysOf (d .year) (d .month)) ≡ true)
+    × (within 0 (d .hour) 23 ≡ true) × (within 0 (d .minute) 59 ≡ true) × (within 0 (d .second) 59 ≡ true)
+unfolding isDate
+all-tests d e = all-six _ _ _ _ _ _ e
+
+-- in the month of a date, exactly the days that the month has are dates
+pub days-of-its-month : (d : DateTime) (day : ℕ) → isDate d ≡ true → isDate (onDay d day) ≡ within 1 day (daysOf (d .year) (d .month))
+unfolding isDate
+days-of-its-month d day e =
+    let t = all-tests d e in
+    the-third _ _ _ _ _ _ (t .0) (t .1) (t .3) (t .4) (t .5)
+
 most : (lowest n highest : ℕ) → within lowest n highest ≡ true → n ≤ highest
 most lowest n highest e = leb-true n highest (and-both (leb lowest n) (leb n highest) e .1)
 
 -- a date's numbers are within their ranges, by which callers know it
 pub date-ranges : (d : DateTime) → isDate d ≡ true → Ranges d
-unfolding isDate
 date-ranges d e =
-    let t = all-six (within 0 (d .year) 99) (within 1 (d .month) 12) (within 1 (d .day) 31) (within 0 (d .hour) 23) (within 0 (d .minute) 59) (within 0 (d .second) 59) e in
+    let t = all-tests d e in
+    let day = most 1 (d .day) (daysOf (d .year) (d .month)) (t .2) in
+    let days = days-most (d .year) (d .month) in
     record {
       year = most 0 (d .year) 99 (t .0);
       month = most 1 (d .month) 12 (t .1);
-      day = most 1 (d .day) 31 (t .2);
+      day = omega (arith, day, days);
       hour = most 0 (d .hour) 23 (t .3);
       minute = most 0 (d .minute) 59 (t .4);
       second = most 0 (d .second) 59 (t .5);

@@ -5,6 +5,7 @@ use mathlib.Core.Bool.{Bool, _&&_}
 use mathlib.Core.List.{List, [], _∷_}
 use lib.Dec.{leb, eqb}
 use lib.ListN.{getD}
+use Rattle.date.specs.Months.{daysOf}
 use Rattle.date.specs.declared.DateTime.{DateTime}
 
 -- its six bytes, and the six numbers that bytes say
@@ -18,15 +19,19 @@ dateOf bs =
 abbrev pub within : ℕ → ℕ → ℕ → Bool
 within lowest n highest = leb lowest n && leb n highest
 
--- "DATETIME: year 0..99 (from 2000), month 1..12, day 1..31, hour 0..23, minute and second 0..59."
+-- "DATETIME: year 0..99 (from 2000), month 1..12" .. "hour 0..23, minute and second 0..59."; "A date is from now on a real one": its month has the day
 unfoldable pub isDate : DateTime → Bool
 isDate d =
     within 0 (d .year) 99
     && within 1 (d .month) 12
-    && within 1 (d .day) 31
+    && within 1 (d .day) (daysOf (d .year) (d .month))
     && within 0 (d .hour) 23
     && within 0 (d .minute) 59
     && within 0 (d .second) 59
+
+-- another day of its month, at the same time
+abbrev pub onDay : DateTime → ℕ → DateTime
+onDay d day = record { year = d .year; month = d .month; day = day; hour = d .hour; minute = d .minute; second = d .second }
 
 -- "Six bytes FF mean no date"
 abbrev pub noDate : DateTime

@@ -1,1 +1,2 @@
+pub mod Months
 pub mod Date

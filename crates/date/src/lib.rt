@@ -2,6 +2,7 @@
 ghost use mathlib.Core.Path.{_≡_};
 ghost use lib.Seq.{sets};
 ghost use Rattle.wire.specs.Numbers.{field};
+ghost use Rattle.date.specs.Months.{february, daysOf};
 ghost use Rattle.date.specs.Date.{dateBytes, dateOf, isDate, isNoDate, within};
 
 pub struct DateTime {
@@ -42,12 +43,33 @@ fn is_within(lowest: u8, n: u8, highest: u8) -> bool
     (lowest <= n) & (n <= highest)
 }
 
+// 2000 is a leap year, and each fourth after it.
+fn february_of(year: u8) -> u8
+    ensures { λ r. ⌜ r ≡ february year ⌝ }
+{
+    if year % 4 == 0 { 29 } else { 28 }
+}
+
+// What is no month has 31 here; is_date refuses it.
+fn days_of(year: u8, month: u8) -> u8
+    ensures { λ r. ⌜ r ≡ daysOf year month ⌝ }
+{
+    match month {
+        2 => february_of(year),
+        4 => 30,
+        6 => 30,
+        9 => 30,
+        11 => 30,
+        _ => 31,
+    }
+}
+
 pub fn is_date(d: DateTime) -> bool
     ensures { λ r. ⌜ r ≡ isDate d ⌝ }
 {
     is_within(0, d.year, 99)
         & is_within(1, d.month, 12)
-        & is_within(1, d.day, 31)
+        & is_within(1, d.day, days_of(d.year, d.month))
         & is_within(0, d.hour, 23)
         & is_within(0, d.minute, 59)
         & is_within(0, d.second, 59)

@@ -1,5 +1,5 @@
 """Cases for request and reply bodies (acts 20 to 23)."""
-from cases.ground import GOOD_DATE, WIDTHS, edge_dates, random_date
+from cases.ground import GOOD_DATE, WIDTHS, edge_dates, month_ends, random_date
 from cases.making import date_number, flipped, pattern, with_faults
 from dates import NO_DATE, is_date
 from readings import channels
@@ -11,7 +11,7 @@ ONE_BIT = (1, 4, 0x100, 0x80000000)
 NOT_ONE_BIT = (0, 3, 5, 0x80000001, 0xFFFFFFFF)
 MASKS = (1, 2, 5, 0x80, 0x80000000, 0xFFFF0000, 0xFFFFFFFF)
 LAST = bytes([99, 12, 31, 23, 59, 59])
-BAD_DATE = bytes([23, 13, 31, 12, 30, 30])
+BAD_DATE = bytes([23, 2, 31, 12, 30, 30])
 
 
 def le(number, width):
@@ -90,6 +90,10 @@ def read_request(rng):
     yield [2, 8], [bytes(3)], 11
     for date in edge_dates():
         yield [5, 8], [date], 0 if is_date(date) else 13
+    for date, is_one in month_ends():
+        yield *read_request_case({**REQUEST, "function": 5, "first": date}), 0 if is_one else 13
+        for place in ("first", "last"):
+            yield *read_request_case({**REQUEST, "function": 6, place: date}), 0 if is_one else 13
     for mask in ONE_BIT + NOT_ONE_BIT:
         yield *read_request_case({**REQUEST, "function": 6, "mask": mask}), 0 if mask in ONE_BIT else 12
     for kind in (1, 2, 3, 4, 0, 5, 0x0100, 0x0101, 0xFFFF):
@@ -174,6 +178,9 @@ def read_reply(rng):
         yield *read_reply_case({**REPLY, "function": 2, "mask": mask}), 0
     for date in edge_dates():
         yield [4, 4, 0], [date], 0 if is_date(date) or date == NO_DATE else 13
+    for date, is_one in month_ends():
+        for function in (4, 6):
+            yield *read_reply_case({**REPLY, "function": function, "date": date}), 0 if is_one else 13
     for status in (0, 1, 2, 128):
         yield *read_reply_case({**REPLY, "function": 5, "status": status}), 0 if status < 2 else 15
     for mask in ONE_BIT + NOT_ONE_BIT:
@@ -224,6 +231,10 @@ def write_request_body(rng):
     yield *written_request({**REQUEST, "function": 2, "width": 8, "mask": mask_of(32), "values": 255}), 11
     for date in edge_dates():
         yield *written_request({**REQUEST, "function": 5, "first": date}), 0 if is_date(date) else 13
+    for date, is_one in month_ends():
+        yield *written_request({**REQUEST, "function": 5, "first": date}), 0 if is_one else 13
+        for place in ("first", "last"):
+            yield *written_request({**REQUEST, "function": 6, place: date}), 0 if is_one else 13
     for mask in ONE_BIT + NOT_ONE_BIT:
         yield *written_request({**REQUEST, "function": 6, "mask": mask}), 0 if mask in ONE_BIT else 12
     for kind in (1, 2, 3, 4):
@@ -276,6 +287,9 @@ def write_reply_body(rng):
         yield *written_reply({**good, "function": 2, "mask": mask}), 0
     for date in edge_dates():
         yield *written_reply({**good, "function": 4, "date": date}), 0 if is_date(date) or date == NO_DATE else 13
+    for date, is_one in month_ends():
+        for function in (4, 6):
+            yield *written_reply({**good, "function": function, "date": date}), 0 if is_one else 13
     for status in (0, 1, 2, 128):
         yield *written_reply({**good, "function": 5, "status": status}), 0 if status < 2 else 15
     for mask in ONE_BIT + NOT_ONE_BIT:

@@ -1,7 +1,7 @@
 """Cases for the checksum, dates and readings (acts 1 to 9)."""
 from cases.making import flipped, pattern
 from crc import crc16, low_byte_first
-from dates import RANGES
+from dates import RANGES, days
 from modbus import rtu_bytes
 from pulsar_frame import frame_bytes
 
@@ -63,7 +63,7 @@ def edge_dates():
     for at, (_, lowest, highest) in enumerate(RANGES):
         for field in sorted({0, lowest, highest, highest + 1, 127, 128, 255}):
             yield GOOD_DATE[:at] + bytes([field]) + GOOD_DATE[at + 1:]
-    for rest in (bytes([0, 2, 29]), bytes([1, 2, 29]), bytes([23, 2, 30]), bytes([23, 2, 31]), bytes([23, 4, 31]), bytes([99, 12, 31])):
+    for rest in (bytes([23, 2, 30]), bytes([23, 2, 31]), bytes([99, 12, 31])):
         yield rest + bytes([23, 59, 59])
     yield b"\xFF" * 6
     for at in range(6):
@@ -72,12 +72,32 @@ def edge_dates():
     yield bytes([0, 1, 1, 0, 0, 0])
 
 
+LAST_DAYS = {
+    23: (31, 28, 31, 30, 31, 30, 31, 31, 30, 31, 30, 31),
+    24: (31, 29, 31, 30, 31, 30, 31, 31, 30, 31, 30, 31),
+}
+
+
+def month_ends():
+    """(date, whether it is one): the last day of each month and the day after it, in a leap year and not; 29 February at both ends of the century,
+    and of the year byte 100."""
+    for year, last_days in LAST_DAYS.items():
+        for month, last in enumerate(last_days, 1):
+            yield bytes([year, month, last, 23, 59, 59]), True
+            yield bytes([year, month, last + 1, 0, 0, 0]), False
+    for year, is_leap in ((0, True), (1, False), (96, True), (99, False), (100, False)):
+        yield bytes([year, 2, 29, 12, 30, 30]), is_leap
+
+
 def random_date(rng):
-    return bytes(rng.randint(lowest, highest) for _, lowest, highest in RANGES)
+    year, month, day, *time = (rng.randint(lowest, highest) for _, lowest, highest in RANGES)
+    return bytes([year, month, min(day, days(year, month)), *time])
 
 
 def dates(rng):
     for date in edge_dates():
+        yield [], [date], 0
+    for date, _ in month_ends():
         yield [], [date], 0
     for _ in range(30):
         yield [], [random_date(rng)], 0
