@@ -125,7 +125,7 @@ def collector():
 
 
 def dates():
-    """Every year, month and day that a byte can be of the century and a little more, beside python's calendar."""
+    """Every year, month and day within the ranges and just beyond, beside python's calendar."""
     for year, month, day in itertools.product(range(101), range(14), range(33)):
         due = year < 100 and 1 <= month <= 12 and 1 <= day <= calendar.monthrange(2000 + year, month)[1]
         same(f"{2000 + year}-{month}-{day} is a date", is_date((year, month, day, 0, 0, 0)), due)
