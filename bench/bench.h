@@ -6,6 +6,8 @@
 struct frame { uint8_t refused, function; uint16_t id; uint32_t address; size_t len; };
 struct rtu { uint8_t refused, address, function; };
 struct step { uint8_t refused; bool complete, under_way; uint16_t session; size_t reached, count; };
+struct date { uint8_t year, month, day, hour, minute, second; };
+struct difference { uint8_t refused; int64_t seconds; };
 struct fields { uint8_t refused, channel, year, month, day, hour, minute, second, kind; uint32_t address; uint64_t bits; };
 
 uint16_t rattle_checksum(const uint8_t *bytes, size_t n);
@@ -22,3 +24,5 @@ struct fields rattle_read_card(const uint8_t *bytes, size_t n);
 struct fields plain_read_card(const uint8_t *bytes, size_t n);
 uint8_t rattle_write_card(struct fields card, uint8_t *out, size_t room);
 uint8_t plain_write_card(struct fields card, uint8_t *out, size_t room);
+struct difference rattle_clock_difference(struct date meter, struct date cabinet);
+struct difference plain_clock_difference(struct date meter, struct date cabinet);

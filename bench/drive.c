@@ -56,6 +56,13 @@ static struct fields make_fields(void)
     return c;
 }
 
+static struct date make_date(void)
+{
+    struct fields c = make_fields();
+    struct date d = {c.year, c.month, c.day, c.hour, c.minute, c.second};
+    return d;
+}
+
 static void damage(uint8_t *p, size_t n)
 {
     size_t at = chance(n);
@@ -109,10 +116,17 @@ static void check_write_card(struct fields c, size_t room, unsigned *good)
     *good += !a;
 }
 
+static void check_clock(struct date meter, struct date cabinet, unsigned *good)
+{
+    struct difference a = rattle_clock_difference(meter, cabinet), b = plain_clock_difference(meter, cabinet);
+    if (a.refused != b.refused || a.seconds != b.seconds) differ("clock_difference");
+    *good += !a.refused;
+}
+
 static int check(void)
 {
     static uint8_t p[10000];
-    unsigned frames = 0, lines = 0, received = 0, read = 0, written = 0;
+    unsigned frames = 0, lines = 0, received = 0, clocks = 0, read = 0, written = 0;
     for (size_t n = 0; n < 600; n++) {
         random_bytes(p, n);
         if (rattle_checksum(p, n) != plain_checksum(p, n)) differ("checksum");
@@ -146,6 +160,14 @@ static int check(void)
         damage(p, 12 + size);
         check_receive(7, true, count, p, 12 + size - chance(2), 1000, &received);
 
+        struct date meter = make_date(), cabinet;
+        cabinet = make_date();
+        check_clock(meter, cabinet, &clocks);
+        damage((uint8_t *)&meter, sizeof meter);
+        check_clock(meter, cabinet, &clocks);
+        damage((uint8_t *)&cabinet, sizeof cabinet);
+        check_clock(meter, cabinet, &clocks);
+
         struct fields c = make_fields();
         check_write_card(c, 16 + chance(10), &written);
         plain_write_card(c, p, 17);
@@ -168,9 +190,9 @@ static int check(void)
         }
         check_write_card(c, 17, &written);
     }
-    fprintf(stderr, "the same answers: 600 checksums, as many in two stretches, 60,000 frames (%u accepted), 60,000 RTU lines (%u), 40,000 parts (%u), 40,000 cards read (%u) and 60,000 written (%u)\n",
-            frames, lines, received, read, written);
-    if (frames < 20000 || lines < 19000 || received < 1000 || read < 20000 || written < 20000) {
+    fprintf(stderr, "the same answers: 600 checksums, as many in two stretches, 60,000 frames (%u accepted), 60,000 RTU lines (%u), 40,000 parts (%u), 60,000 clocks (%u), 40,000 cards read (%u) and 60,000 written (%u)\n",
+            frames, lines, received, clocks, read, written);
+    if (frames < 20000 || lines < 19000 || received < 1000 || clocks < 20000 || read < 20000 || written < 20000) {
         fprintf(stderr, "too few inputs are accepted\n");
         return 1;
     }
@@ -183,6 +205,7 @@ int main(int argc, char **argv)
 {
     static uint8_t p[17 * 400 + 10000], buffer[1000];
     static struct fields cards[400];
+    static struct date dates[401];
     uint64_t sum = 0;
     if (argc == 2) return check();
     bool us = argv[1][0] == 'r';
@@ -213,6 +236,10 @@ int main(int argc, char **argv)
     } else if (!strcmp(work, "receive")) {
         make_part(p, 7, 240, 0, n);
         while (reps--) sum += BOTH(receive, 7, true, 240, p, 12 + n, buffer, sizeof buffer).count;
+    } else if (!strcmp(work, "clock")) {
+        for (int i = 0; i < 401; i++) dates[i] = make_date();
+        for (size_t r = 0; r < reps; r++)
+            for (size_t i = 0; i < n; i++) sum += BOTH(clock_difference, dates[i], dates[i + 1]).seconds;
     } else {
         for (int i = 0; i < 400; i++) {
             cards[i] = make_fields();

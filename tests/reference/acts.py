@@ -1,5 +1,6 @@
 """The acts of CASES.md: what each answers, as the words of its line, and which refusal numbers it can give."""
 import card
+import clock
 import modbus
 import pulsar_body
 import pulsar_frame
@@ -169,6 +170,12 @@ def write_card(numbers, strings):
     return told(refusal, length) + [output]
 
 
+def clock_difference(numbers, strings):
+    """Its sign, 1 for negative, and its size."""
+    refusal, seconds = clock.clock_difference(*map(six, numbers))
+    return told(refusal) if refusal else told(0, int(seconds < 0), abs(seconds))
+
+
 # act: name, the refusal numbers that it can give, its answer
 ACTS = {
     1: ("checksum_from", [], checksum_from),
@@ -201,4 +208,5 @@ ACTS = {
     50: ("read_card", [50, 51, 52, 53, 54], reader(card.read_card)),
     51: ("write_card", [52, 53, 55, 16], write_card),
     52: ("put_line", [16], writer(card.put_line)),
+    60: ("clock_difference", [13, 53], clock_difference),
 }

@@ -1,8 +1,10 @@
 """The reference against what it was not made from: printed traffic, published check values, 01's edges and its card, python's calendar."""
 import calendar
+import datetime
 import itertools
 
 import card
+import clock
 import modbus
 import pulsar_body
 import pulsar_frame
@@ -131,8 +133,21 @@ def dates():
         same(f"{2000 + year}-{month}-{day} is a date", is_date((year, month, day, 0, 0, 0)), due)
 
 
+def seconds():
+    """The first and the last second of every day of the century, beside python's calendar."""
+    begin = datetime.datetime(2000, 1, 1)
+    for n in range(36_525):
+        at = begin + datetime.timedelta(days=n)
+        for time in (datetime.time(0, 0, 0), datetime.time(23, 59, 59)):
+            now = datetime.datetime.combine(at, time)
+            six = (now.year - 2000, now.month, now.day, now.hour, now.minute, now.second)
+            same(f"seconds since 2000 at {now}", clock.seconds_since_2000(six), (now - begin) // datetime.timedelta(seconds=1))
+    same("the last second of 2099", (six, clock.seconds_since_2000(six)), ((99, 12, 31, 23, 59, 59), 3_155_759_999))
+    same("a second slow", clock.clock_difference((0, 1, 1, 0, 0, 0), (0, 1, 1, 0, 0, 1)), (0, -1))
+
+
 def check():
-    for one in (checksums, printed_frames, printed_sessions, modbus_examples, edges, lister, collector, dates):
+    for one in (checksums, printed_frames, printed_sessions, modbus_examples, edges, lister, collector, dates, seconds):
         one()
 
 

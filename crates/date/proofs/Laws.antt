@@ -54,7 +54,8 @@ and-true false b e = refl
 the-third : (a b c d e f : Bool) → a ≡ true → b ≡ true → d ≡ true → e ≡ true → f ≡ true → (a && b && c && d && e && f) ≡ c
 the-third a b c d e f p q r s t = and-true _ f t ∙ and-true _ e s ∙ and-true _ d r ∙ ap (λ (x : Bool). x && c) (and-true a b q ∙ p)
 
-all-tests : (d : DateTime) → isDate d ≡ true
+-- what the tests of a date say, one by one
+pub all-tests : (d : DateTime) → isDate d ≡ true
     → (within 0 (d .year) 99 ≡ true) × (within 1 (d .month) 12 ≡ true) × (within 1 (d .day) (daysOf (d .year) (d .month)) ≡ true)
     × (within 0 (d .hour) 23 ≡ true) × (within 0 (d .minute) 59 ≡ true) × (within 0 (d .second) 59 ≡ true)
 unfolding isDate
@@ -67,22 +68,24 @@ days-of-its-month d day e =
     let t = all-tests d e in
     the-third _ _ _ _ _ _ (t .0) (t .1) (t .3) (t .4) (t .5)
 
-most : (lowest n highest : ℕ) → within lowest n highest ≡ true → n ≤ highest
-most lowest n highest e = leb-true n highest (and-both (leb lowest n) (leb n highest) e .1)
+pub inside : (lowest n highest : ℕ) → within lowest n highest ≡ true → (lowest ≤ n) × (n ≤ highest)
+inside lowest n highest e =
+    let t = and-both (leb lowest n) (leb n highest) e in
+    (leb-true lowest n (t .0), leb-true n highest (t .1))
 
 -- a date's numbers are within their ranges, by which callers know it
 pub date-ranges : (d : DateTime) → isDate d ≡ true → Ranges d
 date-ranges d e =
     let t = all-tests d e in
-    let day = most 1 (d .day) (daysOf (d .year) (d .month)) (t .2) in
+    let day = inside 1 (d .day) (daysOf (d .year) (d .month)) (t .2) .1 in
     let days = days-most (d .year) (d .month) in
     record {
-      year = most 0 (d .year) 99 (t .0);
-      month = most 1 (d .month) 12 (t .1);
+      year = inside 0 (d .year) 99 (t .0) .1;
+      month = inside 1 (d .month) 12 (t .1) .1;
       day = omega (arith, day, days);
-      hour = most 0 (d .hour) 23 (t .3);
-      minute = most 0 (d .minute) 59 (t .4);
-      second = most 0 (d .second) 59 (t .5);
+      hour = inside 0 (d .hour) 23 (t .3) .1;
+      minute = inside 0 (d .minute) 59 (t .4) .1;
+      second = inside 0 (d .second) 59 (t .5) .1;
     }
 
 -- a date is not no date

@@ -1,5 +1,6 @@
 // Answers each case of standard input with a line. tests/reference/CASES.md says how a case and a line are written.
 mod cards;
+mod clocks;
 mod collector;
 mod envelope;
 mod files;
@@ -49,6 +50,7 @@ fn answer(act: u8, numbers: &[u8], bytes: &[u8], out: &mut [u8]) -> bool {
         10..=23 => pulsar(act, numbers, bytes, out),
         30..=43 => controller(act, numbers, bytes, out),
         50..=52 => cards::answer(act, numbers, bytes, out),
+        60 => clocks::answer(numbers),
         _ => say::unknown(act),
     }
 }

@@ -1,0 +1,6 @@
+pub mod Days
+pub mod Rising
+pub mod Laws
+pub mod Order
+pub mod Edges
+pub mod Unique
