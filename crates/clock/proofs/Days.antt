@@ -1,4 +1,4 @@
--- The days of the first months and years: each is what the one before has and more, and in how many leap days a year differs from a common one.
+-- The days of the first months and years: they rise, and they are those of common years and the leap days that have passed.
 -- Assumes nothing.
 use mathlib.Core.Path.{_≡_, refl, sym, ap, ap₂, _∙_}
 use mathlib.Core.Bool.{Bool, true, false, cond}
@@ -6,7 +6,7 @@ use Prim.Native.Nat.{ℕ, zero, suc, _+_, _-_, _*_, _/_, _%_, _≤_, _<_}
 use native.Mathlib.Omega.{arith}
 use lib.Dec.{ltb, eqb}
 use borrow.Author.Tests.{eqb-true, eqb-false, ne-eqb, lt-ltb, le-ltb}
-use Rattle.date.specs.Months.{isLeap, february, daysOf}
+use Rattle.date.specs.Months.{isLeap, daysOf}
 use Rattle.clock.specs.Seconds.{daysOfMonths, daysOfYears}
 
 pub months-rise : (year n : ℕ) → daysOfMonths year n ≤ daysOfMonths year (suc n)
@@ -30,7 +30,7 @@ other-month : (year month : ℕ) → eqb month 2 ≡ false → daysOf year month
 other-month year month e = rw e refl
 
 -- a year has its leap day from the end of February on
-pub months-beyond : (year n : ℕ) → daysOfMonths year n ≡ daysOfMonths 1 n + cond (ltb 1 n) (leapDay year) 0
+months-beyond : (year n : ℕ) → daysOfMonths year n ≡ daysOfMonths 1 n + cond (ltb 1 n) (leapDay year) 0
 unfolding daysOfMonths
 months-beyond year zero = refl
 months-beyond year (suc zero) = refl
@@ -47,15 +47,21 @@ months-beyond year (suc (suc (suc n))) =
     turned : (a b c : ℕ) → a + b + c ≡ a + c + b
     turned a b c = omega arith
 
--- the leap days of the years before
+-- and with it the count of leap years goes on
+quarters : (year : ℕ) → (year + 4) / 4 ≡ (year + 3) / 4 + leapDay year
+quarters year = go (isLeap year) refl
+  where
+    go : (l : Bool) → isLeap year ≡ l → (year + 4) / 4 ≡ (year + 3) / 4 + cond l 1 0
+    go true e = let h : (2000 + year) % 4 ≡ 0 = eqb-true ((2000 + year) % 4) 0 e in omega arith
+    go false e = let h : (2000 + year) % 4 ≡ 0 → ⊥ = eqb-false ((2000 + year) % 4) 0 e in omega arith
+
+-- so the leap days of the years before
 pub years-closed : (year : ℕ) → daysOfYears year ≡ year * 365 + (year + 3) / 4
 unfolding daysOfMonths daysOfYears
 years-closed zero = refl
-years-closed (suc year) = ap₂ (λ (x y : ℕ). x + y) (years-closed year) (months-beyond year 12) ∙ go (isLeap year) refl
-  where
-    go : (l : Bool) → isLeap year ≡ l → year * 365 + (year + 3) / 4 + (365 + cond l 1 0) ≡ suc year * 365 + (suc year + 3) / 4
-    go true e = let m : (2000 + year) % 4 ≡ 0 = eqb-true ((2000 + year) % 4) 0 e in omega arith
-    go false e = let m : (2000 + year) % 4 ≡ 0 → ⊥ = eqb-false ((2000 + year) % 4) 0 e in omega arith
+years-closed (suc year) =
+    let own : daysOfMonths year 12 ≡ 365 + leapDay year = months-beyond year 12 in
+    omega (arith, years-closed year, own, quarters year)
 
 -- each 29 February before a month is a day more than by years of 365 days
 pub to-february : (year month : ℕ) → month ≤ 2 → year * 365 + (year + 3) / 4 + daysOfMonths 1 (month - 1) ≡ daysOfYears year + daysOfMonths year (month - 1)
@@ -66,9 +72,4 @@ to-february year month h =
 pub from-march : (year month : ℕ) → 2 < month → year * 365 + (year + 4) / 4 + daysOfMonths 1 (month - 1) ≡ daysOfYears year + daysOfMonths year (month - 1)
 from-march year month h =
     let own = months-beyond year (month - 1) ∙ ap (λ (b : Bool). daysOfMonths 1 (month - 1) + cond b (leapDay year) 0) (lt-ltb 1 (month - 1) (omega arith)) in
-    go (isLeap year) refl (years-closed year) own
-  where
-    go : (l : Bool) → isLeap year ≡ l → daysOfYears year ≡ year * 365 + (year + 3) / 4 → daysOfMonths year (month - 1) ≡ daysOfMonths 1 (month - 1) + cond l 1 0
-        → year * 365 + (year + 4) / 4 + daysOfMonths 1 (month - 1) ≡ daysOfYears year + daysOfMonths year (month - 1)
-    go true e y m = let d : (2000 + year) % 4 ≡ 0 = eqb-true ((2000 + year) % 4) 0 e in omega arith
-    go false e y m = let d : (2000 + year) % 4 ≡ 0 → ⊥ = eqb-false ((2000 + year) % 4) 0 e in omega arith
+    omega (arith, years-closed year, own, quarters year)

@@ -1,4 +1,5 @@
 pub mod Days
+pub mod Places
 pub mod Rising
 pub mod Laws
 pub mod Order

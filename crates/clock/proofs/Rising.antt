@@ -1,21 +1,20 @@
 -- The seconds rise as dates do in their written order, to the last second of 2099.
 -- Assumes nothing.
 use mathlib.Core.Path.{_≡_, refl, sym, ap, ap₂, _∙_, subst}
-use mathlib.Core.Bool.{Bool, true, false, _&&_, _||_}
-use mathlib.Core.List.{List, [], _∷_}
+use mathlib.Core.Bool.{Bool, true, _&&_, _||_}
 use Prim.Native.Nat.{ℕ, zero, suc, _+_, _-_, _*_, _≤_, _<_}
 use native.Mathlib.Omega.{arith}
 use lib.Dec.{ltb, eqb}
-use lib.ListN.{length}
-use borrow.Author.Tests.{ltb-true, ltb-false, eqb-true, eqb-false, eq-eqb, lt-ltb, le-ltb}
-use Rattle.wire.proofs.Bools.{or-neither}
+use borrow.Author.Tests.{le-ltb}
 use Rattle.date.specs.Months.{daysOf}
 use Rattle.date.specs.Date.{dateBytes, dateOf, isDate}
 use Rattle.date.specs.declared.DateTime.{DateTime}
 use Rattle.date.proofs.Laws.{all-tests, inside}
 use Rattle.clock.specs.Seconds.{daysOfMonths, daysOfYears, secondsSince2000, isBefore}
 use Rattle.clock.proofs.Days.{months-rise, years-rise, years-closed}
+use Rattle.clock.proofs.Places.{never-falls, ordered, alone, neither-before}
 
+-- a month's days stand between its beginning and the next month's
 month-more : (year month : ℕ) → 1 ≤ month → daysOfMonths year (suc month - 1) ≡ daysOfMonths year (month - 1) + daysOf year month
 unfolding daysOfMonths
 month-more year zero h = absurd (omega arith)
@@ -23,58 +22,6 @@ month-more year (suc n) h = ap (daysOfMonths year) (one-less (suc n)) ∙ ap (λ
   where
     one-less : (n : ℕ) → suc n - 1 ≡ n
     one-less n = omega arith
-
--- of two numbers neither is before the other: they are the same, and so of what stands behind them
-neither : (x y : ℕ) (r r′ : Bool) → (ltb x y || (eqb x y && r)) ≡ false → (ltb y x || (eqb y x && r′)) ≡ false → (x ≡ y) × (r ≡ false) × (r′ ≡ false)
-neither x y r r′ e e′ =
-    let u = or-neither (ltb x y) (eqb x y && r) e in
-    let v = or-neither (ltb y x) (eqb y x && r′) e′ in
-    let least = ltb-false x y (u .0) in
-    let most = ltb-false y x (v .0) in
-    let same : x ≡ y = omega arith in
-    (same, sym (ap (λ (q : Bool). q && r) (eq-eqb x y same)) ∙ u .1, sym (ap (λ (q : Bool). q && r′) (eq-eqb y x (sym same))) ∙ v .1)
-
-neither-before : (xs ys : List ℕ) → length xs ≡ length ys → isBefore xs ys ≡ false → isBefore ys xs ≡ false → xs ≡ ys
-neither-before [] [] l e e′ = refl
-neither-before [] (y ∷ ys) l e e′ = absurd (omega arith)
-neither-before (x ∷ xs) [] l e e′ = absurd (omega arith)
-neither-before (x ∷ xs) (y ∷ ys) l e e′ =
-    let n = neither x y (isBefore xs ys) (isBefore ys xs) e e′ in
-    ap₂ (λ (z : ℕ) (zs : List ℕ). z ∷ zs) (n .0) (neither-before xs ys (omega arith) (n .1) (n .2))
-
--- what stands behind the same
-behind : (a b u v : ℕ) → a ≡ b → ltb (a + u) (b + v) ≡ ltb u v
-behind a b u v e = go (ltb u v) refl
-  where
-    go : (t : Bool) → ltb u v ≡ t → ltb (a + u) (b + v) ≡ t
-    go true h = let less = ltb-true u v h in lt-ltb (a + u) (b + v) (omega arith)
-    go false h = let least = ltb-false u v h in le-ltb (a + u) (b + v) (omega arith)
-
--- places in a row: place n begins at f n
-module _ (f : ℕ → ℕ) (rises : (n : ℕ) → f n ≤ f (suc n)) where
-  climbs : (k m n : ℕ) → k + m ≡ n → f m ≤ f n
-  climbs zero m n e = let same : f m ≡ f n = ap f (omega arith) in omega arith
-  climbs (suc k) m n e =
-      let before = climbs k m (k + m) refl in
-      let last : f (suc (k + m)) ≡ f n = ap f (omega arith) in
-      omega (arith, rises (k + m))
-
-  pub never-falls : (m n : ℕ) → m ≤ n → f m ≤ f n
-  never-falls m n h = climbs (n - m) m n (omega arith)
-
-  -- of two numbers, each in its place, the one in the earlier place is less, and in the same place what stands behind its beginning says it
-  ordered : (m n u v : ℕ) (rest : Bool) → f m + u < f (suc m) → f n + v < f (suc n) → (m ≡ n → ltb u v ≡ rest)
-      → ltb (f m + u) (f n + v) ≡ (ltb m n || (eqb m n && rest))
-  ordered m n u v rest hm hn same = go (ltb m n) (eqb m n) refl refl
-    where
-      go : (l q : Bool) → ltb m n ≡ l → eqb m n ≡ q → ltb (f m + u) (f n + v) ≡ (l || (q && rest))
-      go true q el eq = let next = never-falls (suc m) n (ltb-true m n el) in lt-ltb (f m + u) (f n + v) (omega arith)
-      go false true el eq = let e = eqb-true m n eq in behind (f m) (f n) u v (ap f e) ∙ same e
-      go false false el eq =
-          let other = eqb-false m n eq in
-          let least = ltb-false m n el in
-          let next = never-falls (suc n) m (omega arith) in
-          le-ltb (f m + u) (f n + v) (omega arith)
 
 -- the seconds in the day, in the month and in the year
 abbrev inDay : DateTime → ℕ
@@ -130,12 +77,6 @@ placed d e =
 
 in-parts : (d : DateTime) → secondsSince2000 d ≡ beforeYear (d .year) + inYear d
 in-parts d = omega arith
-
--- nothing stands behind the last number
-alone : (l q : Bool) → l ≡ (l || (q && false))
-alone true q = refl
-alone false true = refl
-alone false false = refl
 
 pub rising : (a b : DateTime) → isDate a ≡ true → isDate b ≡ true → ltb (secondsSince2000 a) (secondsSince2000 b) ≡ isBefore (dateBytes a) (dateBytes b)
 rising a b ea eb =

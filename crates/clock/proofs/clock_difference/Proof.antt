@@ -4,7 +4,7 @@ use mathlib.Core.Path.{_≡_, sym, ap, ap₂, _∙_, subst}
 use mathlib.Core.Bool.{true}
 use Prim.Native.Nat.{ℕ, _<_, _^_}
 use native.Mathlib.Omega.{arith}
-use lib.IntN.{ℤ, pos, _-ℤ_}
+use lib.IntN.{pos, _-ℤ_}
 use mir.Syntax.{w64}
 use mir.Val.{SFits, toZ, ofZ}
 use mir.ValLaws.{toZ-pos, toZ-ofZ}
@@ -39,9 +39,6 @@ returns-2 c =
 -- the seconds of a date fit, and so does whichever is taken from another
 few : (d : DateTime) (n : ℕ) → isDate d ≡ true → n ≡ secondsSince2000 d → n < 2 ^ 63
 few d n good e = let most = seconds-most d good in omega arith
-
-fits-signed : (n : ℕ) → n < 2 ^ 63 → SFits w64 (pos n)
-fits-signed n h = record { sfits = h }
 
 difference-fits : (x y : ℕ) → x < 2 ^ 63 → y < 2 ^ 63 → SFits w64 (toZ w64 x -ℤ toZ w64 y)
 difference-fits x y p q = subst (SFits w64) (sym (ap₂ _-ℤ_ (toZ-pos w64 x p) (toZ-pos w64 y q))) (record { sfits = fits x y p q })
@@ -81,8 +78,8 @@ clock-difference-spec =
     (λ c κs. search needs)
     returns-2
     (λ c κs. meter-good (c .before .before))
-    (λ c. fits-signed _ (meter-few c))
+    (λ c. record { sfits = meter-few c })
     (λ c κs. cabinet-good (c .before))
-    (λ c. fits-signed _ (cabinet-few c))
+    (λ c. record { sfits = cabinet-few c })
     sub-seconds
     returns-3)
