@@ -6,7 +6,7 @@ ghost use mathlib.Core.Bool.{true};
 ghost use mathlib.Core.Path.{_≡_};
 ghost use Rattle.date.specs.Date.{isDate};
 ghost use Rattle.clock.specs.Seconds.{daysOfMonths, daysOfYears, secondsSince2000};
-ghost use Rattle.clock.specs.Clock.{clockDifference};
+ghost use Rattle.clock.specs.Clock.{badMeter, badCabinet, clockDifference};
 
 pub enum Difference {
     // The meter's date less the cabinet's: negative when the meter is slow.
@@ -60,13 +60,26 @@ fn seconds_since_2000(d: DateTime) -> u64
     days * 86400 + d.hour as u64 * 3600 + d.minute as u64 * 60 + d.second as u64
 }
 
+// No date is no real one either.
+fn bad_meter(meter: DateTime) -> bool
+    ensures { λ r. ⌜ r ≡ badMeter meter ⌝ }
+{
+    !is_date(meter)
+}
+
+fn bad_cabinet(cabinet: DateTime) -> bool
+    ensures { λ r. ⌜ r ≡ badCabinet cabinet ⌝ }
+{
+    !is_date(cabinet)
+}
+
 pub fn clock_difference(meter: DateTime, cabinet: DateTime) -> Difference
     ensures { λ r. ⌜ r ≡ clockDifference meter cabinet ⌝ }
 {
-    if !is_date(meter) {
+    if bad_meter(meter) {
         return Difference::Refused(13);
     }
-    if !is_date(cabinet) {
+    if bad_cabinet(cabinet) {
         return Difference::Refused(53);
     }
     let at_meter = seconds_since_2000(meter) as i64;

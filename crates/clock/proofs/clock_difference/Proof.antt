@@ -20,21 +20,11 @@ use Rattle.clock.proofs.Laws.{fits, meter-refused, cabinet-refused, ans
 use Rattle.clock.proofs.clock_difference.Statement.{statement}
 use Rattle.clock.proofs.clock_difference.Tie as tie
 
-returns : tie.Need-returns
-returns c =
-    let bad = sym (c .before .is-date .ensures) ∙ not-true _ (c .if1 .taken) in
-    sym (meter-refused _ _ bad)
-
 meter-good : (c : tie.Else1) → isDate (c .before .before .args .meter) ≡ true
-meter-good c = sym (c .before .is-date .ensures) ∙ not-false _ (c .if1 .left)
+meter-good c = not-false _ (sym (c .before .bad-meter .ensures) ∙ c .if1 .left)
 
 cabinet-good : (c : tie.Else2) → isDate (c .before .before .before .before .args .cabinet) ≡ true
-cabinet-good c = sym (c .before .is-date2 .ensures) ∙ not-false _ (c .if2 .left)
-
-returns-2 : tie.Need-returns-2
-returns-2 c =
-    let bad = sym (c .before .is-date2 .ensures) ∙ not-true _ (c .if2 .taken) in
-    sym (cabinet-refused _ _ (meter-good (c .before .before)) bad)
+cabinet-good c = not-false _ (sym (c .before .bad-cabinet .ensures) ∙ c .if2 .left)
 
 -- the seconds of a date fit, and so does whichever is taken from another
 few : (d : DateTime) (n : ℕ) → isDate d ≡ true → n ≡ secondsSince2000 d → n < 2 ^ 63
@@ -74,9 +64,9 @@ clock-difference-spec =
     tie.close
     (tie.spec
     (λ c κs. search needs)
-    returns
+    (λ c. sym (meter-refused _ _ (not-true _ (sym (c .before .bad-meter .ensures) ∙ c .if1 .taken))))
     (λ c κs. search needs)
-    returns-2
+    (λ c. sym (cabinet-refused _ _ (meter-good (c .before .before)) (not-true _ (sym (c .before .bad-cabinet .ensures) ∙ c .if2 .taken))))
     (λ c κs. meter-good (c .before .before))
     (λ c. record { sfits = meter-few c })
     (λ c κs. cabinet-good (c .before))
