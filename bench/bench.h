@@ -3,7 +3,8 @@
 #include <stddef.h>
 #include <stdint.h>
 
-struct frame { uint8_t refused, function; uint16_t id; uint32_t address; size_t len; };
+/* bytes: LEN; of refusal 9, how many lack */
+struct frame { uint8_t refused, function; uint16_t id; uint32_t address; size_t bytes; };
 struct rtu { uint8_t refused, address, function; };
 struct step { uint8_t refused; bool complete, under_way; uint16_t session; size_t reached, count; };
 struct date { uint8_t year, month, day, hour, minute, second; };
@@ -16,6 +17,8 @@ uint16_t rattle_checksum_from(uint16_t start, const uint8_t *bytes, size_t n);
 uint16_t plain_checksum_from(uint16_t start, const uint8_t *bytes, size_t n);
 struct frame rattle_read_at_meter(uint32_t own, const uint8_t *bytes, size_t n);
 struct frame plain_read_at_meter(uint32_t own, const uint8_t *bytes, size_t n);
+struct frame rattle_read_at_master(uint32_t asked, uint8_t function, uint16_t id, const uint8_t *bytes, size_t n);
+struct frame plain_read_at_master(uint32_t asked, uint8_t function, uint16_t id, const uint8_t *bytes, size_t n);
 struct rtu rattle_read_rtu(const uint8_t *bytes, size_t n);
 struct rtu plain_read_rtu(const uint8_t *bytes, size_t n);
 struct step rattle_receive(uint16_t session, bool under_way, size_t count, const uint8_t *frame, size_t n, uint8_t *buffer, size_t room);

@@ -75,11 +75,20 @@ static void differ(const char *what)
     exit(1);
 }
 
+static void same_frame(struct frame a, struct frame b, const char *what, unsigned *good)
+{
+    if (a.refused != b.refused || a.function != b.function || a.id != b.id || a.address != b.address || a.bytes != b.bytes) differ(what);
+    *good += !a.refused;
+}
+
+/* At the meter, and at the master that asked the same address, or any, for some function under some ID, most often those of the frame. */
 static void check_frame(uint32_t own, const uint8_t *p, size_t n, unsigned *good)
 {
-    struct frame a = rattle_read_at_meter(own, p, n), b = plain_read_at_meter(own, p, n);
-    if (a.refused != b.refused || a.function != b.function || a.id != b.id || a.address != b.address || a.len != b.len) differ("read_at_meter");
-    *good += !a.refused;
+    same_frame(rattle_read_at_meter(own, p, n), plain_read_at_meter(own, p, n), "read_at_meter", good);
+    uint32_t asked = chance(9) ? own : 0;
+    uint8_t function = chance(9) ? p[4] : chance(256);
+    uint16_t id = chance(9) && p[5] >= 10 ? p[p[5] - 4] | p[p[5] - 3] << 8 : chance(65536);
+    same_frame(rattle_read_at_master(asked, function, id, p, n), plain_read_at_master(asked, function, id, p, n), "read_at_master", good);
 }
 
 static void check_rtu(const uint8_t *p, size_t n, unsigned *good)
@@ -190,9 +199,9 @@ static int check(void)
         }
         check_write_card(c, 17, &written);
     }
-    fprintf(stderr, "the same answers: 600 checksums, as many in two stretches, 60,000 frames (%u accepted), 60,000 RTU lines (%u), 40,000 parts (%u), 60,000 clocks (%u), 40,000 cards read (%u) and 60,000 written (%u)\n",
+    fprintf(stderr, "the same answers: 600 checksums, as many in two stretches, 60,000 frames at the meter and at the master (%u accepted), 60,000 RTU lines (%u), 40,000 parts (%u), 60,000 clocks (%u), 40,000 cards read (%u) and 60,000 written (%u)\n",
             frames, lines, received, clocks, read, written);
-    if (frames < 20000 || lines < 19000 || received < 1000 || clocks < 20000 || read < 20000 || written < 20000) {
+    if (frames < 35000 || lines < 19000 || received < 1000 || clocks < 20000 || read < 20000 || written < 20000) {
         fprintf(stderr, "too few inputs are accepted\n");
         return 1;
     }
@@ -229,7 +238,13 @@ int main(int argc, char **argv)
         }
     } else if (!strcmp(work, "frame")) {
         make_frame(p, n);
-        while (reps--) sum += BOTH(read_at_meter, 12345678, p, n).len;
+        while (reps--) sum += BOTH(read_at_meter, 12345678, p, n).bytes;
+    } else if (!strcmp(work, "reply")) {
+        make_frame(p, n);
+        while (reps--) sum += BOTH(read_at_master, 12345678, p[4], p[n - 4] | p[n - 3] << 8, p, n).bytes;
+    } else if (!strcmp(work, "begun")) {
+        make_frame(p, n);
+        while (reps--) sum += BOTH(read_at_meter, 12345678, p, n - 1).bytes;
     } else if (!strcmp(work, "rtu")) {
         make_rtu(p, n);
         while (reps--) sum += BOTH(read_rtu, p, n).function;

@@ -7,6 +7,7 @@ import pulsar_frame
 import pulsar_line
 import readings
 import sm160
+from cases.making import changed
 from crc import crc16
 from dates import NO_DATE, is_date
 
@@ -17,10 +18,10 @@ def told(refusal, *values):
 
 
 def reader(function):
-    """A reader's answer is (number, fields or None)."""
+    """A reader's answer is (number, fields or None); 9 has a count."""
     def answer(numbers, strings):
         refusal, fields = function(*numbers, *strings)
-        return told(refusal, *(fields or ()))
+        return [refusal, *(fields or ())]
     return answer
 
 
@@ -68,17 +69,17 @@ def collect(numbers, strings):
     state = pulsar_line.fresh()
     for byte in strings[0]:
         _, state = pulsar_line.push(state, byte)
-    refusal, (handed, _) = pulsar_line.silence(state)
-    return told(refusal, len(handed), handed)
+    refusal, (handed, missing, _) = pulsar_line.silence(state)
+    return told(refusal, len(handed), missing, handed)
 
 
 def lent_collector(numbers, strings):
-    count, byte = numbers
-    lent = (pulsar_line.fresh()[0], count)
+    count, byte, length = numbers
+    lent = (changed(pulsar_line.fresh()[0], 5, bytes([length])), count)
     refusal, pushed = pulsar_line.push(lent, byte)
     words = told(refusal, pushed and pushed[1])
     refusal, handed = pulsar_line.silence(lent)
-    return words + told(refusal, handed and len(handed[0]))
+    return words + told(refusal, *(handed and (len(handed[0]), handed[1]) or ()))
 
 
 REQUEST_WORDS = {
@@ -187,8 +188,8 @@ ACTS = {
     7: ("channel_of", [], channel_of),
     8: ("is_same", [], is_same),
     9: ("stretches", [], stretches),
-    10: ("read_at_meter", [1, 2, 3, 4, 5, 6, 7], reader(pulsar_frame.read_at_meter)),
-    11: ("read_at_master", [1, 2, 3, 6, 7, 4, 5, 8], reader(pulsar_frame.read_at_master)),
+    10: ("read_at_meter", [1, 2, 3, 4, 9, 5, 6, 7], reader(pulsar_frame.read_at_meter)),
+    11: ("read_at_master", [1, 2, 3, 6, 7, 4, 9, 5, 8], reader(pulsar_frame.read_at_master)),
     12: ("write_request", [1, 17, 16], writer(pulsar_frame.write_request)),
     13: ("write_reply", [1, 17, 16], writer(pulsar_frame.write_reply)),
     14: ("collect", [], collect),

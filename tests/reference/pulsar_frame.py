@@ -1,6 +1,6 @@
-"""01, Pulsar-M frame: ADDRESS 4 (BCD, most significant first), FN 1, LEN 1, PAYLOAD 0 to 245, ID 2, CRC 2."""
+"""01, Pulsar-M frame: ADDRESS 4 (BCD, most significant first), FN 1, LEN 1, PAYLOAD 0 to 245, ID 2, CRC 2. 02, W-205: 9, with the missing count."""
 from crc import crc16, low_byte_first
-from refusals import read, written
+from refusals import first, read, written
 
 HIGHEST_ADDRESS = 99_999_999
 LONGEST_PAYLOAD = 245
@@ -33,10 +33,6 @@ def crc_differs(frame):
     return frame[length - 2:length] != low_byte_first(crc16(frame[:length - 2]))
 
 
-def bad_len(received):
-    return len_field(received) < 10 or len_field(received) > len(received)
-
-
 def fields(frame):
     """address, function, id, len, payload."""
     length = len_field(frame)
@@ -48,29 +44,38 @@ def not_the_asked_address(asked, address):
     return address == 0 if asked == 0 else address != asked
 
 
+def judged(rules, received):
+    """(0, the fields), (9, the number of bytes that lack), or (the number, None)."""
+    if first(rules) == 9:
+        return 9, (len_field(received) - len(received),)
+    return read(rules, lambda: fields(received))
+
+
 def read_at_meter(own, received):
-    return read([
+    return judged([
         (1, lambda: not 1 <= own <= HIGHEST_ADDRESS),
         (2, lambda: len(received) < 10),
         (3, lambda: not is_bcd(received[0:4])),
-        (4, lambda: bad_len(received)),
+        (4, lambda: len_field(received) < 10),
+        (9, lambda: len_field(received) > len(received)),
         (5, lambda: crc_differs(received)),
         (6, lambda: address_field(received) not in (own, 0)),
         (7, lambda: function_field(received) == 0),
-    ], lambda: fields(received))
+    ], received)
 
 
 def read_at_master(asked_address, asked_function, asked_id, received):
-    return read([
+    return judged([
         (1, lambda: asked_address > HIGHEST_ADDRESS or asked_function == 0),
         (2, lambda: len(received) < 10),
         (3, lambda: not is_bcd(received[0:4])),
         (6, lambda: not_the_asked_address(asked_address, address_field(received))),
         (7, lambda: function_field(received) not in (asked_function, 0)),
-        (4, lambda: bad_len(received)),
+        (4, lambda: len_field(received) < 10),
+        (9, lambda: len_field(received) > len(received)),
         (5, lambda: crc_differs(received)),
         (8, lambda: id_field(received) != asked_id),
-    ], lambda: fields(received))
+    ], received)
 
 
 def frame_bytes(address, function, id, payload):

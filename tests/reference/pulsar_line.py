@@ -1,4 +1,5 @@
-"""01, the line collector: a frame buffer of 255 zero bytes and count 0."""
+"""01, the line collector: a frame buffer of 255 zero bytes and count 0. 02, W-205: at silence, how many bytes lack."""
+from pulsar_frame import len_field
 from refusals import read
 
 ROOM = 255
@@ -23,7 +24,14 @@ def push(state, byte):
     return read(unfit(count), added)
 
 
+def missing(held):
+    """Whatever the address: the collector judges nothing else."""
+    if len(held) >= 10 and len_field(held) > len(held):
+        return len_field(held) - len(held)
+    return 0
+
+
 def silence(state):
-    """Hands over the collected bytes; the collector starts afresh."""
+    """Hands over the collected bytes, and tells how many lack; the collector starts afresh."""
     buffer, count = state
-    return read(unfit(count), lambda: (buffer[:count], fresh()))
+    return read(unfit(count), lambda: (buffer[:count], missing(buffer[:count]), fresh()))

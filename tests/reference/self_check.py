@@ -90,7 +90,7 @@ def edges():
     same("address 12 34 56 7A", pulsar_frame.read_at_meter(1, bytes.fromhex("1234567A 01 0A 0000 0000"))[0], 3)
     same("9 bytes", pulsar_frame.read_at_meter(1, bytes(9))[0], 2)
     same("LEN 9", pulsar_frame.read_at_meter(1, bytes.fromhex("12345678 01 09 0000 0000"))[0], 4)
-    same("LEN 11", pulsar_frame.read_at_meter(1, bytes.fromhex("12345678 01 0B 0000 0000"))[0], 4)
+    same("LEN 11", pulsar_frame.read_at_meter(1, bytes.fromhex("12345678 01 0B 0000 0000")), (9, (1,)))
     same("mask 5, body of 8", pulsar_body.read_reply(1, 4, 5, bytes(range(8))), (0, {"mask": 5, "values": bytes(range(8))}))
     same("mask 5 is two values", readings.value_places(4, bytes(range(8))), [bytes(range(4)), bytes(range(4, 8))])
     same("mask 5, body of 7", pulsar_body.read_reply(1, 4, 5, bytes(7))[0], 11)
@@ -119,11 +119,26 @@ def lister():
     same("a short last card", card.listing(CARD + CARD[:16]), LISTING + "refused 50\n")
 
 
+def on_its_way():
+    """02, W-205."""
+    ten = bytes.fromhex("12345678 06 FF 00000000")
+    same("10 bytes of 255", pulsar_frame.read_at_meter(12_345_678, ten), (9, (245,)))
+    same("254 bytes of 255", pulsar_frame.read_at_master(12_345_678, 6, 0, ten + bytes(244)), (9, (1,)))
+    same("of another address, at the meter", pulsar_frame.read_at_meter(1, ten), (9, (245,)))
+    same("of another address, at the master", pulsar_frame.read_at_master(1, 6, 0, ten), (6, None))
+    for held, lack in ((ten, 245), (ten[:9], 0), (ten + bytes(244), 1), (ten + bytes(245), 0), (ten + bytes(300), 0)):
+        state = pulsar_line.fresh()
+        for byte in held:
+            _, state = pulsar_line.push(state, byte)
+        same("told at silence", pulsar_line.silence(state)[1][1], lack)
+    same("an unfit collector", pulsar_line.silence((bytes(255), 256)), (20, None))
+
+
 def collector():
     state = pulsar_line.fresh()
     for byte in range(256):
         _, state = pulsar_line.push(state, byte)
-    same("the 256th byte is dropped", pulsar_line.silence(state), (0, (bytes(range(255)), (bytes(255), 0))))
+    same("the 256th byte is dropped", pulsar_line.silence(state), (0, (bytes(range(255)), 0, (bytes(255), 0))))
 
 
 def dates():
@@ -147,7 +162,7 @@ def seconds():
 
 
 def check():
-    for one in (checksums, printed_frames, printed_sessions, modbus_examples, edges, lister, collector, dates, seconds):
+    for one in (checksums, printed_frames, printed_sessions, modbus_examples, edges, on_its_way, lister, collector, dates, seconds):
         one()
 
 

@@ -10,7 +10,7 @@ use Rattle.card.specs.Edges.{cardEdges, cardBeside}
 use Rattle.sm160_printed.specs.Edges.{receiverEdges}
 
 -- those that 01 marks P, in its order: checksum of nothing, of byte 00, of ASCII 123456789; address 12 34 56 78 and 12 34 56 7A, 9 bytes, LEN 9
--- and LEN 11 at the meter; mask 5 with a body of 8 and of 7, mask 0 with none; month 12 and 13; the card; the receiver at 141 with offsets 141, 73
+-- and LEN 11 at the meter (9, 1 missing, since W-205); mask 5 with a body of 8 and of 7, mask 0 with none; month 12 and 13; the card; the receiver at 141 with offsets 141, 73
 -- and 142
 abbrev pub edges : List Edge
 edges = flatten (checksumEdges ∷ frameEdges ∷ replyEdges ∷ requestEdges ∷ cardEdges ∷ receiverEdges ∷ [])

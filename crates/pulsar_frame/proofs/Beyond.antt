@@ -1,17 +1,21 @@
 -- Bytes received beyond LEN are ignored: a frame of which all LEN bytes came is answered as these alone, refused or not.
 -- Assumes nothing.
 use mathlib.Core.Path.{_≡_, refl, sym, ap, ap₂, _∙_}
+use mathlib.Core.Bool.{Bool}
 use mathlib.Core.List.{List, _∷_}
 use Prim.Native.Nat.{ℕ, zero, suc, _+_, _-_, _≤_}
 use native.Mathlib.Omega.{arith}
+use lib.Dec.{ltb}
 use lib.ListN.{length, take}
 use lib.Seq.{getD-take, take-take, length-take-le}
 use borrow.Author.Tests.{le-ltb}
+use Rattle.wire.specs.Answer.{answered}
 use Rattle.wire.specs.Numbers.{field}
-use Rattle.wire.specs.Refusal.{first}
+use Rattle.wire.specs.Refusal.{pick, first}
 use Rattle.pulsar_frame.specs.Layout.{functionOf, lenOf, coveredOf}
-use Rattle.pulsar_frame.specs.Reading.{tooShort, badLength, meterRules, masterRules, frameOf, readAtMeter, readAtMaster}
-use Rattle.pulsar_frame.proofs.Parts.{all-came}
+use Rattle.pulsar_frame.specs.Reading.{tooShort, badLength, onItsWay, missing, meterRules, masterRules, frameOf, refusal, readAnswer, readAtMeter, readAtMaster}
+use Rattle.pulsar_frame.specs.declared.Frame.{Frame}
+use Rattle.pulsar_frame.specs.declared.FrameRead.the-variants.{Frame as Found}
 
 -- a field within the first n bytes
 field-front : (s : List ℕ) (n at w : ℕ) → at + w ≤ n → field (take n s) at w ≡ field s at w
@@ -47,24 +51,38 @@ module _ (s : List ℕ) (least : 10 ≤ lenOf s) (most : lenOf s ≤ length s) w
   same-short = le-ltb (length Front) 10 (omega (arith, length-take-le (lenOf s) s most)) ∙ sym (le-ltb (length s) 10 (omega arith))
 
   same-length : badLength Front ≡ badLength s
-  same-length =
+  same-length = ap (λ (n : ℕ). ltb n 10) same-len
+
+  same-on-its-way : onItsWay Front ≡ onItsWay s
+  same-on-its-way =
       let all = length-take-le (lenOf s) s most in
-      all-came Front (omega (arith, same-len)) (omega (arith, same-len, all)) ∙ sym (all-came s least most)
+      le-ltb (length Front) (lenOf Front) (omega (arith, same-len, all)) ∙ sym (le-ltb (length s) (lenOf s) most)
+
+  -- none lack
+  same-missing : missing Front ≡ missing s
+  same-missing =
+      let all = length-take-le (lenOf s) s most in
+      let none : lenOf Front - length Front ≡ lenOf s - length s = omega (arith, same-len, all) in
+      ap₂ (λ (b : Bool) (n : ℕ). pick b 0 n) same-short none
 
   same-frame : frameOf Front ≡ frameOf s
   same-frame = cc (same-address, same-function, same-id, same-len)
 
+  same-answer : (n m : ℕ) → n ≡ m → readAnswer Front n ≡ readAnswer s m
+  same-answer n m e =
+      ap (readAnswer Front) e ∙ ap₂ (λ (k : ℕ) (fr : Frame). answered (refusal k) (Found fr) m) same-missing same-frame
+
   same-at-meter : (own : ℕ) → first (meterRules own Front) ≡ first (meterRules own s)
-  same-at-meter own = cc (same-short, same-address, same-length, same-crc, same-covered, same-function)
+  same-at-meter own = cc (same-short, same-address, same-length, same-on-its-way, same-crc, same-covered, same-function)
 
   same-at-master : (address function id : ℕ) → first (masterRules address function id Front) ≡ first (masterRules address function id s)
-  same-at-master address function id = cc (same-short, same-address, same-function, same-length, same-crc, same-covered, same-id)
+  same-at-master address function id = cc (same-short, same-address, same-function, same-length, same-on-its-way, same-crc, same-covered, same-id)
 
 pub meter-ignores-beyond : (own : ℕ) (s : List ℕ) → 10 ≤ lenOf s → lenOf s ≤ length s → readAtMeter own s ≡ readAtMeter own (take (lenOf s) s)
 unfolding readAtMeter
-meter-ignores-beyond own s least most = sym (cc (same-frame s least most, same-at-meter s least most own))
+meter-ignores-beyond own s least most = sym (same-answer s least most _ _ (same-at-meter s least most own))
 
 pub master-ignores-beyond : (address function id : ℕ) (s : List ℕ) → 10 ≤ lenOf s → lenOf s ≤ length s
     → readAtMaster address function id s ≡ readAtMaster address function id (take (lenOf s) s)
 unfolding readAtMaster
-master-ignores-beyond address function id s least most = sym (cc (same-frame s least most, same-at-master s least most address function id))
+master-ignores-beyond address function id s least most = sym (same-answer s least most _ _ (same-at-master s least most address function id))

@@ -1,5 +1,6 @@
 pub mod Stores
 pub mod Parts
+pub mod OnItsWay
 pub mod Readers
 pub mod RoundTrip
 pub mod Beyond

@@ -6,26 +6,21 @@ use mathlib.Core.List.{List, [], _∷_, _++_, append-assoc}
 use Prim.Native.Nat.{ℕ, _+_, _-_, _^_, _<_, _≤_}
 use native.Mathlib.Omega.{arith}
 use native.Mathlib.Nat.{zero-add}
-use lib.Dec.{ltb, eqb, lit<}
+use lib.Dec.{eqb, lit<}
 use lib.ListN.{length, take, drop, length-append}
 use lib.Seq.{take-at, drop-at}
-use borrow.Author.Tests.{le-ltb, eq-eqb, ltb-false, eqb-true, not-false}
+use borrow.Author.Tests.{le-ltb, eq-eqb, eqb-true, not-false}
 use Rattle.checksum.specs.Crc.{crc}
 use Rattle.checksum.proofs.Laws.{crcFrom-lt}
 use Rattle.wire.specs.Each.{Bytes}
 use Rattle.wire.specs.Numbers.{bcd, le, ofBcd, ofLe, isBcd, field, digits}
-use Rattle.wire.proofs.Bools.{T-true, true-T, or-neither, neither-or}
+use Rattle.wire.proofs.Bools.{T-true, true-T}
 use Rattle.wire.proofs.Each.{each-append, getD-each}
 use Rattle.wire.proofs.Numbers.{length-bcd, ofBcd-bcd, ofBcd-lt, bcd-ofBcd, bcd-isBcd, bcd-bytes, le-bytes}
 use Rattle.wire.proofs.Fields.{field-at, field-take, field-append, length-field, number-at, number-again}
 use Rattle.pulsar_frame.specs.Layout.{frameBody, frameBytes, lenOf, addressOf, functionOf, payloadOf, idOf, crcOf, coveredOf}
-use Rattle.pulsar_frame.specs.Reading.{tooShort, notBcd, badLength, badCrc}
+use Rattle.pulsar_frame.specs.Reading.{tooShort, notBcd, badLength, onItsWay, badCrc}
 use Rattle.pulsar_frame.proofs.Stores.{length-body, length-frame}
-
--- a frame of which all bytes came
-pub all-came : (s : List ℕ) → 10 ≤ lenOf s → lenOf s ≤ length s → badLength s ≡ false
-all-came s least most =
-    neither-or (ltb (lenOf s) 10) (ltb (length s) (lenOf s)) (le-ltb (lenOf s) 10 least) (le-ltb (length s) (lenOf s) most)
 
 -- ---- what was written
 module _ (a f id : ℕ) (p rest : List ℕ) where
@@ -108,16 +103,12 @@ module _ (a f id : ℕ) (p rest : List ℕ) where
   written-long = le-ltb (length S) 10 (simp (length-append, length-frame) (omega arith))
 
   pub written-length : badLength S ≡ false
-  written-length = all-came S (omega (arith, written-len)) (rw written-len (simp (length-append, length-frame) (omega arith)))
+  written-length = le-ltb (lenOf S) 10 (omega (arith, written-len))
+
+  pub written-whole : onItsWay S ≡ false
+  written-whole = le-ltb (length S) (lenOf S) (rw written-len (simp (length-append, length-frame) (omega arith)))
 
 -- ---- what was read
-
-module _ (s : List ℕ) (whole : badLength s ≡ false) where
-  pub ten : 10 ≤ lenOf s
-  ten = ltb-false (lenOf s) 10 (or-neither (ltb (lenOf s) 10) (ltb (length s) (lenOf s)) whole .0)
-
-  pub within : lenOf s ≤ length s
-  within = ltb-false (length s) (lenOf s) (or-neither (ltb (lenOf s) 10) (ltb (length s) (lenOf s)) whole .1)
 
 module _ (s : List ℕ) (bytes : Bytes s) (isDecimal : notBcd s ≡ false) (least : 10 ≤ lenOf s) (most : lenOf s ≤ length s) where
   abbrev P : List ℕ

@@ -12,12 +12,13 @@ use Rattle.wire.specs.Refusal.{first, NoneHolds}
 use Rattle.wire.proofs.Answer.{answered-none, accepted-as}
 use Rattle.wire.proofs.Refusal.{first-none, none-first}
 use Rattle.pulsar_frame.specs.Layout.{frameBytes, addressOf, functionOf, idOf}
-use Rattle.pulsar_frame.specs.Reading.{badOwn, badAsked, tooShort, notBcd, badLength, badCrc, notMine, notAsked, noFunction, otherFunction, otherId, meterRules, masterRules, frameOf, readAnswer, readAtMeter, readAtMaster, toldFrameRead}
+use Rattle.pulsar_frame.specs.Reading.{badOwn, badAsked, tooShort, notBcd, badLength, onItsWay, badCrc, notMine, notAsked, noFunction, otherFunction, otherId, meterRules, masterRules, missing, frameOf, refusal, readAnswer, readAtMeter, readAtMaster, toldFrameRead}
 use Rattle.pulsar_frame.specs.Promise.{Typed}
 use Rattle.pulsar_frame.specs.declared.Frame.{Frame}
 use Rattle.pulsar_frame.specs.declared.FrameRead.{FrameRead}
-use Rattle.pulsar_frame.specs.declared.FrameRead.the-variants.{Frame as Found, Refused}
-use Rattle.pulsar_frame.proofs.Parts.{written-function, written-len, written-bcd, written-address, written-id, written-crc, written-long, written-length}
+use Rattle.pulsar_frame.specs.declared.FrameRead.the-variants.{Frame as Found}
+use Rattle.pulsar_frame.proofs.OnItsWay.{refusal-tells}
+use Rattle.pulsar_frame.proofs.Parts.{written-function, written-len, written-bcd, written-address, written-id, written-crc, written-long, written-length, written-whole}
 
 -- ---- tests, from facts and back
 or-left : (x y : Bool) → x ≡ true → not (x || y) ≡ false
@@ -74,8 +75,11 @@ module _ (a f id : ℕ) (p rest : List ℕ) (typed : Typed f id p) (small : leng
   decimal : notBcd S ≡ false
   decimal = written-bcd a f id p rest
 
-  whole : badLength S ≡ false
-  whole = written-length a f id p rest
+  counted : badLength S ≡ false
+  counted = written-length a f id p rest
+
+  whole : onItsWay S ≡ false
+  whole = written-whole a f id p rest
 
   checked : badCrc S ≡ false
   checked = written-crc a f id p rest (typed .function-fits) small (typed .payload-fits)
@@ -85,8 +89,8 @@ module _ (a f id : ℕ) (p rest : List ℕ) (typed : Typed f id p) (small : leng
   meter-reads own good mine asks =
       let mine′ : notMine own S ≡ false = one-of (addressOf S) own 0 (rw (written-address a f id p rest fits) mine) in
       let asks′ : noFunction S ≡ false = ne-eqb (functionOf S) 0 (λ e. asks (sym (written-function a f id p rest) ∙ e)) in
-      let none : NoneHolds (meterRules own S) = (good, (long, (decimal, (whole, (checked, (mine′, (asks′, tt))))))) in
-      answered-none Refused (Found (frameOf S)) _ (first-none (meterRules own S) none) ∙ the-frame
+      let none : NoneHolds (meterRules own S) = (good, (long, (decimal, (counted, (whole, (checked, (mine′, (asks′, tt)))))))) in
+      answered-none (refusal (missing S)) (Found (frameOf S)) _ (first-none (meterRules own S) none) ∙ the-frame
 
   pub master-reads : (asked g : ℕ) → badAsked asked g ≡ false → (a ≡ 0 → ⊥) → (a ≡ asked) ⊎ (asked ≡ 0) → (f ≡ g) ⊎ (f ≡ 0)
       → readAtMaster asked g id S ≡ Fields
@@ -96,8 +100,8 @@ module _ (a f id : ℕ) (p rest : List ℕ) (typed : Typed f id p) (small : leng
       let mine′ : notAsked asked S ≡ false = expected asked (addressOf S) (λ z. pos (sym ea ∙ z)) (rw ea mine) in
       let answers′ : otherFunction g S ≡ false = one-of (functionOf S) g 0 (rw (written-function a f id p rest) answers) in
       let same : otherId id S ≡ false = ap not (eq-eqb (idOf S) id (written-id a f id p rest (typed .id-fits))) in
-      let none : NoneHolds (masterRules asked g id S) = (good, (long, (decimal, (mine′, (answers′, (whole, (checked, (same, tt)))))))) in
-      answered-none Refused (Found (frameOf S)) _ (first-none (masterRules asked g id S) none) ∙ the-frame
+      let none : NoneHolds (masterRules asked g id S) = (good, (long, (decimal, (mine′, (answers′, (counted, (whole, (checked, (same, tt))))))))) in
+      answered-none (refusal (missing S)) (Found (frameOf S)) _ (first-none (masterRules asked g id S) none) ∙ the-frame
 
 -- ---- what is accepted
 
@@ -105,12 +109,13 @@ module _ (a f id : ℕ) (p rest : List ℕ) (typed : Typed f id p) (small : leng
 pub record Accepted (s : List ℕ) (fr : Frame) : Type 0 where
   pub frame : frameOf s ≡ fr
   pub decimal : notBcd s ≡ false
-  pub whole : badLength s ≡ false
+  pub counted : badLength s ≡ false
+  pub whole : onItsWay s ≡ false
   pub checked : badCrc s ≡ false
 
 found : (n : ℕ) (s : List ℕ) (fr : Frame) → readAnswer s n ≡ Found fr → (n ≡ 0) × (frameOf s ≡ fr)
 found n s fr e =
-    let ok = accepted-as Refused (Found (frameOf s)) (λ r. toldFrameRead r .number) (λ k. refl) n (Found fr) e refl in
+    let ok = accepted-as (refusal (missing s)) (Found (frameOf s)) (λ r. toldFrameRead r .number) (refusal-tells (missing s)) n (Found fr) e refl in
     let same : Found (frameOf s) ≡ Found fr = ok .1 in
     (ok .0, (cc))
 
@@ -120,7 +125,7 @@ unfolding readAtMeter
 at-meter own s fr e =
     let ok = found (first (meterRules own s)) s fr e in
     let h = none-first (meterRules own s) tt (ok .0) .1 .1 in
-    (record { frame = ok .1; decimal = h .0; whole = h .1 .0; checked = h .1 .1 .0 }, h .1 .1 .1 .1 .0)
+    (record { frame = ok .1; decimal = h .0; counted = h .1 .0; whole = h .1 .1 .0; checked = h .1 .1 .1 .0 }, h .1 .1 .1 .1 .1 .0)
 
 -- the master that the address is not 0
 pub at-master : (address function id : ℕ) (s : List ℕ) (fr : Frame) → readAtMaster address function id s ≡ Found fr
@@ -129,4 +134,4 @@ unfolding readAtMaster
 at-master address function id s fr e =
     let ok = found (first (masterRules address function id s)) s fr e in
     let h = none-first (masterRules address function id s) tt (ok .0) .1 .1 in
-    (record { frame = ok .1; decimal = h .0; whole = h .1 .1 .1 .0; checked = h .1 .1 .1 .1 .0 }, bears-not address (addressOf s) (h .1 .0))
+    (record { frame = ok .1; decimal = h .0; counted = h .1 .1 .1 .0; whole = h .1 .1 .1 .1 .0; checked = h .1 .1 .1 .1 .1 .0 }, bears-not address (addressOf s) (h .1 .0))

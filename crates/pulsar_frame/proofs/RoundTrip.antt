@@ -28,7 +28,7 @@ use Rattle.pulsar_frame.specs.declared.FrameRead.{FrameRead}
 use Rattle.pulsar_frame.specs.declared.FrameRead.the-variants.{Frame as Found}
 use Rattle.pulsar_frame.proofs.Readers.{Accepted, at-meter, at-master, meter-reads, master-reads}
 use Rattle.pulsar_frame.proofs.Stores.{length-frame}
-use Rattle.pulsar_frame.proofs.Parts.{written-payload, ten, within, read-frame, read-address, read-payload, read-small}
+use Rattle.pulsar_frame.proofs.Parts.{written-payload, read-frame, read-address, read-payload, read-small}
 
 -- ---- what is written reads back
 
@@ -81,10 +81,10 @@ reply-reads-back address asked a f id p out out′ s n typed w e good mine answe
 -- ---- what is accepted, written again
 module _ (s : List ℕ) (fr : Frame) (bytes : Bytes s) (ok : Accepted s fr) where
   least : 10 ≤ lenOf s
-  least = ten s (ok .whole)
+  least = ltb-false (lenOf s) 10 (ok .counted)
 
   most : lenOf s ≤ length s
-  most = within s (ok .whole)
+  most = ltb-false (length s) (lenOf s) (ok .whole)
 
   small-address : addressOf s ≤ 99999999
   small-address = read-address s bytes (ok .decimal) least most

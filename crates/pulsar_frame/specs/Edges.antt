@@ -3,7 +3,7 @@
 use Prim.Native.Nat.{ℕ}
 use mathlib.Core.List.{List, [], _∷_}
 use lib.ListN.{take}
-use Rattle.wire.specs.Told.{Told, accepted, refused, Edge, _gives_}
+use Rattle.wire.specs.Told.{Told, accepted, refused, refusedWith, Edge, _gives_}
 use Rattle.pulsar_frame.specs.Layout.{frameBytes}
 use Rattle.pulsar_frame.specs.Reading.{readAtMeter, toldFrameRead}
 
@@ -24,7 +24,7 @@ frameEdges =
     ∷ atMeter (clockRequest 0x7A 10) gives refused 3
     ∷ atMeter (take 9 (clockRequest 0x78 10)) gives refused 2
     ∷ atMeter (clockRequest 0x78 9) gives refused 4
-    ∷ atMeter (clockRequest 0x78 11) gives refused 4
+    ∷ atMeter (clockRequest 0x78 11) gives refusedWith 9 (1 ∷ [])
     ∷ []
 
 -- beside 01's: the clock request written, and a frame of eleven bytes

@@ -1,19 +1,19 @@
 -- What reading a frame answers: the conditions of the refusal table, their order at the meter and at the master, and the answer.
 -- Assumes nothing.
-use Prim.Native.Nat.{ℕ}
-use mathlib.Core.Bool.{Bool, not, _&&_, _||_}
+use Prim.Native.Nat.{ℕ, _-_}
+use mathlib.Core.Bool.{Bool, true, false, not, _&&_, _||_}
 use mathlib.Core.List.{List, [], _∷_}
 use lib.Dec.{ltb, eqb}
 use lib.ListN.{length}
 use Rattle.checksum.specs.Crc.{crc}
 use Rattle.wire.specs.Answer.{answered}
 use Rattle.wire.specs.Numbers.{isBcd, field}
-use Rattle.wire.specs.Refusal.{Rule, _when_, first}
-use Rattle.wire.specs.Told.{Told, accepted, refused}
+use Rattle.wire.specs.Refusal.{Rule, _when_, pick, first}
+use Rattle.wire.specs.Told.{Told, accepted, refused, refusedWith}
 use Rattle.pulsar_frame.specs.Layout.{addressOf, functionOf, lenOf, idOf, crcOf, coveredOf}
 use Rattle.pulsar_frame.specs.declared.Frame.{Frame}
 use Rattle.pulsar_frame.specs.declared.FrameRead.{FrameRead}
-use Rattle.pulsar_frame.specs.declared.FrameRead.the-variants.{Frame as Found, Refused}
+use Rattle.pulsar_frame.specs.declared.FrameRead.the-variants.{Frame as Found, Missing, Refused}
 
 -- 1 own address outside 1..99,999,999
 abbrev pub badOwn : ℕ → Bool
@@ -31,9 +31,18 @@ tooShort s = ltb (length s) 10
 abbrev pub notBcd : List ℕ → Bool
 notBcd s = not (isBcd (field s 0 4))
 
--- 4 LEN below 10 or above the bytes received
+-- 4 LEN below 10
 abbrev pub badLength : List ℕ → Bool
-badLength s = ltb (lenOf s) 10 || ltb (length s) (lenOf s)
+badLength s = ltb (lenOf s) 10
+
+-- 9 LEN above the bytes received: "a frame still on its way"
+abbrev pub onItsWay : List ℕ → Bool
+onItsWay s = ltb (length s) (lenOf s)
+
+-- "the number of bytes that lack, LEN less those received"; the collector "tells that number if it holds 10 bytes or more, LEN above their count,
+-- and otherwise 0" (`-` ends at 0)
+abbrev pub missing : List ℕ → ℕ
+missing s = pick (tooShort s) 0 (lenOf s - length s)
 
 -- 5 CRC differs
 abbrev pub badCrc : List ℕ → Bool
@@ -59,19 +68,20 @@ otherFunction function s = not (eqb (functionOf s) function || eqb (functionOf s
 abbrev pub otherId : ℕ → List ℕ → Bool
 otherId id s = not (eqb (idOf s) id)
 
--- at the meter: "Order is by number"
+-- "Order is by number, but for: the meter, 1, 2, 3, 4, 9, 5, 6, 7"; 9 stands "directly after 4 in both orders"
 abbrev pub meterRules : ℕ → List ℕ → List Rule
 meterRules own s =
     1 when badOwn own
     ∷ 2 when tooShort s
     ∷ 3 when notBcd s
     ∷ 4 when badLength s
+    ∷ 9 when onItsWay s
     ∷ 5 when badCrc s
     ∷ 6 when notMine own s
     ∷ 7 when noFunction s
     ∷ []
 
--- "Order is by number, but for: the master, 1, 2, 3, 6, 7, 4, 5, 8"
+-- "the master, 1, 2, 3, 6, 7, 4, 9, 5, 8"; here too 9 stands "directly after 4 in both orders"
 abbrev pub masterRules : ℕ → ℕ → ℕ → List ℕ → List Rule
 masterRules address function id s =
     1 when badAsked address function
@@ -80,6 +90,7 @@ masterRules address function id s =
     ∷ 6 when notAsked address s
     ∷ 7 when otherFunction function s
     ∷ 4 when badLength s
+    ∷ 9 when onItsWay s
     ∷ 5 when badCrc s
     ∷ 8 when otherId id s
     ∷ []
@@ -88,9 +99,17 @@ masterRules address function id s =
 abbrev pub frameOf : List ℕ → Frame
 frameOf s = record { address = addressOf s; function = functionOf s; id = idOf s; len = lenOf s }
 
+-- the refusal n: "9, with the missing count"
+abbrev pub refusedAs : Bool → ℕ → ℕ → FrameRead
+refusedAs true lack n = Missing lack
+refusedAs false lack n = Refused n
+
+abbrev pub refusal : ℕ → ℕ → FrameRead
+refusal lack n = refusedAs (eqb n 9) lack n
+
 -- the answer where the refusal is n, 0 for none
 abbrev pub readAnswer : List ℕ → ℕ → FrameRead
-readAnswer s n = answered Refused (Found (frameOf s)) n
+readAnswer s n = answered (refusal (missing s)) (Found (frameOf s)) n
 
 unfoldable pub readAtMeter : ℕ → List ℕ → FrameRead
 readAtMeter own s = readAnswer s (first (meterRules own s))
@@ -98,7 +117,8 @@ readAtMeter own s = readAnswer s (first (meterRules own s))
 unfoldable pub readAtMaster : ℕ → ℕ → ℕ → List ℕ → FrameRead
 readAtMaster address function id s = readAnswer s (first (masterRules address function id s))
 
--- the paper's number and values: address, function, ID, LEN
+-- the paper's number and values: address, function, ID, LEN; of 9 the missing count
 abbrev pub toldFrameRead : FrameRead → Told
 toldFrameRead (Found f) = accepted (f .address ∷ f .function ∷ f .id ∷ f .len ∷ [])
+toldFrameRead (Missing lack) = refusedWith 9 (lack ∷ [])
 toldFrameRead (Refused n) = refused n

@@ -1,6 +1,8 @@
 // The fields of the bytes received. Each is total: a byte past the end reads as 0.
 use crate::Frame;
 ghost use mathlib.Core.Path.{_≡_};
+ghost use Prim.Native.Nat.{_-_};
+ghost use lib.ListN.{length};
 ghost use Rattle.pulsar_frame.specs.Layout.{addressOf, functionOf, lenOf, idOf};
 ghost use Rattle.pulsar_frame.specs.Reading.{frameOf};
 
@@ -20,6 +22,13 @@ pub fn len_of(bytes: &[u8]) -> usize
     ensures { λ r. ⌜ r ≡ lenOf (now (bytes .entry)) ⌝ }
 {
     wire::byte_at(bytes, 5) as usize
+}
+
+// LEN less the bytes received.
+pub fn lack_of(bytes: &[u8]) -> usize
+    ensures { λ r. ⌜ r ≡ lenOf (now (bytes .entry)) - length (now (bytes .entry)) ⌝ }
+{
+    wire::minus(len_of(bytes), bytes.len())
 }
 
 pub fn id_of(bytes: &[u8]) -> u16

@@ -1,11 +1,13 @@
 // The Pulsar-M frame, read and written at the meter and at the master. What each function answers is in specs/.
 mod fields;
+mod master;
+mod meter;
 mod refuse;
 mod write;
 
 ghost use mathlib.Core.Path.{_≡_};
 ghost use Rattle.pulsar_frame.specs.Layout.{payloadOf};
-ghost use Rattle.pulsar_frame.specs.Reading.{readAnswer, readAtMeter, readAtMaster};
+ghost use Rattle.pulsar_frame.specs.Reading.{missing, refusal, readAtMeter, readAtMaster};
 ghost use Rattle.pulsar_frame.specs.Writing.{WritesRequest, WritesReply};
 
 pub struct Frame {
@@ -18,31 +20,52 @@ pub struct Frame {
 
 pub enum FrameRead {
     Frame(Frame),
+    // 9: a frame still on its way, and how many of its bytes lack.
+    Missing(usize),
+    // Any other refusal.
     Refused(u8),
 }
 
-// The refusal, or where it is 0 the frame.
-fn answer(refusal: u8, bytes: &[u8]) -> FrameRead
-    ensures { λ r. ⌜ r ≡ readAnswer (now (bytes .entry)) refusal ⌝ }
+// How many bytes lack of the frame that these begin, LEN less their count. 0 where all came, and where LEN is not known yet.
+pub fn missing(bytes: &[u8]) -> usize
+    ensures { λ r. ⌜ r ≡ missing (now (bytes .entry)) ⌝ }
 {
-    if refusal != 0 {
-        return FrameRead::Refused(refusal);
+    if refuse::too_short(bytes) {
+        return 0;
     }
-    FrameRead::Frame(fields::frame_of(bytes))
+    fields::lack_of(bytes)
+}
+
+// The refusal n.
+fn refused(n: u8, bytes: &[u8]) -> FrameRead
+    ensures { λ r. ⌜ r ≡ refusal (missing (now (bytes .entry))) n ⌝ }
+{
+    if n == 9 {
+        return FrameRead::Missing(missing(bytes));
+    }
+    FrameRead::Refused(n)
 }
 
 // A request, at the meter with the address own.
 pub fn read_at_meter(own: u32, bytes: &[u8]) -> FrameRead
     ensures { λ r. ⌜ r ≡ readAtMeter own (now (bytes .entry)) ⌝ }
 {
-    answer(refuse::meter_fault(own, bytes), bytes)
+    let n = meter::fault(own, bytes);
+    if n != 0 {
+        return refused(n, bytes);
+    }
+    FrameRead::Frame(fields::frame_of(bytes))
 }
 
 // A reply, at the master that asked address for function under id.
 pub fn read_at_master(address: u32, function: u8, id: u16, bytes: &[u8]) -> FrameRead
     ensures { λ r. ⌜ r ≡ readAtMaster address function id (now (bytes .entry)) ⌝ }
 {
-    answer(refuse::master_fault(address, function, id, bytes), bytes)
+    let n = master::fault(address, function, id, bytes);
+    if n != 0 {
+        return refused(n, bytes);
+    }
+    FrameRead::Frame(fields::frame_of(bytes))
 }
 
 // The payload of an accepted frame of len bytes, as a part of the bytes received.

@@ -1,8 +1,7 @@
-// The conditions of the refusal table, and the first of them that holds at the meter and at the master.
+// The conditions of the refusal table.
 use crate::fields;
 ghost use mathlib.Core.Path.{_≡_};
-ghost use Rattle.wire.specs.Refusal.{first};
-ghost use Rattle.pulsar_frame.specs.Reading.{badOwn, badAsked, tooShort, notBcd, badLength, badCrc, notMine, notAsked, noFunction, otherFunction, otherId, meterRules, masterRules};
+ghost use Rattle.pulsar_frame.specs.Reading.{badOwn, badAsked, tooShort, notBcd, badLength, onItsWay, badCrc, notMine, notAsked, noFunction, otherFunction, otherId};
 ghost use Rattle.pulsar_frame.specs.Writing.{tooLong, noRoom};
 
 pub fn bad_own(own: u32) -> bool
@@ -32,8 +31,13 @@ pub fn not_bcd(bytes: &[u8]) -> bool
 pub fn bad_length(bytes: &[u8]) -> bool
     ensures { λ r. ⌜ r ≡ badLength (now (bytes .entry)) ⌝ }
 {
-    let n = fields::len_of(bytes);
-    (n < 10) | (bytes.len() < n)
+    fields::len_of(bytes) < 10
+}
+
+pub fn on_its_way(bytes: &[u8]) -> bool
+    ensures { λ r. ⌜ r ≡ onItsWay (now (bytes .entry)) ⌝ }
+{
+    bytes.len() < fields::len_of(bytes)
 }
 
 pub fn bad_crc(bytes: &[u8]) -> bool
@@ -75,64 +79,6 @@ pub fn other_id(id: u16, bytes: &[u8]) -> bool
     ensures { λ r. ⌜ r ≡ otherId id (now (bytes .entry)) ⌝ }
 {
     fields::id_of(bytes) != id
-}
-
-// 0 where none holds.
-pub fn meter_fault(own: u32, bytes: &[u8]) -> u8
-    ensures { λ r. ⌜ r ≡ first (meterRules own (now (bytes .entry))) ⌝ }
-{
-    if bad_own(own) {
-        return 1;
-    }
-    if too_short(bytes) {
-        return 2;
-    }
-    if not_bcd(bytes) {
-        return 3;
-    }
-    if bad_length(bytes) {
-        return 4;
-    }
-    if bad_crc(bytes) {
-        return 5;
-    }
-    if not_mine(own, bytes) {
-        return 6;
-    }
-    if no_function(bytes) {
-        return 7;
-    }
-    0
-}
-
-pub fn master_fault(address: u32, function: u8, id: u16, bytes: &[u8]) -> u8
-    ensures { λ r. ⌜ r ≡ first (masterRules address function id (now (bytes .entry))) ⌝ }
-{
-    if bad_asked(address, function) {
-        return 1;
-    }
-    if too_short(bytes) {
-        return 2;
-    }
-    if not_bcd(bytes) {
-        return 3;
-    }
-    if not_asked(address, bytes) {
-        return 6;
-    }
-    if other_function(function, bytes) {
-        return 7;
-    }
-    if bad_length(bytes) {
-        return 4;
-    }
-    if bad_crc(bytes) {
-        return 5;
-    }
-    if other_id(id, bytes) {
-        return 8;
-    }
-    0
 }
 
 pub fn too_long(payload: &[u8]) -> bool

@@ -3,9 +3,10 @@
 use mathlib.Core.Path.{_≡_, sym, _∙_}
 use mathlib.Core.Bool.{Bool, true, false}
 use Prim.Native.Nat.{ℕ, _+_, _<_, _≤_}
-use lib.ListN.{set}
+use lib.ListN.{set, take}
 use borrow.Author.Tests.{lt-ltb, le-ltb}
 use Rattle.wire.specs.Refusal.{pick}
+use Rattle.pulsar_frame.specs.Reading.{missing}
 use Rattle.pulsar_line.specs.Collect.{fresh, zeros, unfit, pushed, silenced}
 use Rattle.pulsar_line.specs.declared.Collector.{Collector}
 use Rattle.pulsar_line.specs.declared.Answer.the-variants.{Done, Refused}
@@ -24,10 +25,11 @@ module _ (c : Collector) (r : Bool) (e : r ≡ unfit (c .count)) where
   unfolding pushed pick
   push-dropped b t h = rw (sym e ∙ t, le-ltb (c .count) 255 h)
 
-  pub silence-unfit : r ≡ true → record { answer = Refused 20; bytes = zeros; count = 0; state = c } ≡ silenced c
+  pub silence-unfit : r ≡ true → record { answer = Refused 20; bytes = zeros; count = 0; missing = 0; state = c } ≡ silenced c
   unfolding silenced pick
   silence-unfit t = rw (sym e ∙ t)
 
-  pub silence-fit : (d : Collector) → r ≡ false → d ≡ fresh → record { answer = Done; bytes = c .bytes; count = c .count; state = d } ≡ silenced c
+  pub silence-fit : (lack : ℕ) (d : Collector) → r ≡ false → lack ≡ missing (take (c .count) (c .bytes)) → d ≡ fresh
+      → record { answer = Done; bytes = c .bytes; count = c .count; missing = lack; state = d } ≡ silenced c
   unfolding silenced pick
-  silence-fit d t f = rw (sym e ∙ t, f)
+  silence-fit lack d t m f = rw (sym e ∙ t, m, f)

@@ -13,6 +13,7 @@ use borrow.Author.Tests.{le-ltb, lt-ltb, ltb-true, ltb-false}
 use Rattle.wire.specs.Numbers.{over}
 use Rattle.wire.specs.Told.{accepted}
 use Rattle.wire.proofs.Writing.{sets-over, sets-append}
+use Rattle.pulsar_frame.specs.Reading.{missing}
 use Rattle.pulsar_line.specs.Collect.{fresh, zeros, unfit, pushed, silenced, Event, byte, quiet, after, since, handing, toldPushed, toldHanded}
 use Rattle.pulsar_line.specs.declared.Collector.{Collector}
 use Rattle.pulsar_line.specs.declared.Pushed.{Pushed}
@@ -64,8 +65,15 @@ pushes bs b = go (ltb (length bs) 255) refl
         ∙ ap (λ (l : List ℕ). record { answer = Done; state = record { bytes = over zeros l; count = length l } })
         (sym (take-append-le 255 bs (b ∷ []) full))
 
+-- the buffer begins with what it holds
+front-held : (xs : List ℕ) → take (length xs) (over zeros xs) ≡ xs
+unfolding over
+front-held xs = take-append-seam xs (drop (length xs) zeros)
+
 silences : (bs : List ℕ) → silenced (holding bs) ≡ handing (take 255 bs)
-silences bs = sym (silence-fit (holding bs) false (sym (fit bs)) fresh refl refl)
+silences bs =
+    let xs = take 255 bs in
+    sym (silence-fit (holding bs) false (sym (fit bs)) (missing xs) fresh refl (ap missing (sym (front-held xs))) refl)
 
 holds : (bs : List ℕ) (es : List Event) → after (holding bs) es ≡ holding (since bs es)
 unfolding over
@@ -78,12 +86,11 @@ pub collected : (es : List Event) → silenced (after fresh es) ≡ handing (tak
 unfolding over
 collected es = ap silenced (holds [] es) ∙ silences (since [] es)
 
--- in the paper's words: exactly the first 255 of the bytes since the last silence
-pub handed-over : (es : List Event) → toldHanded (silenced (after fresh es)) ≡ accepted (take 255 (since [] es))
-unfolding over
+-- in the paper's words: exactly the first 255 of the bytes since the last silence, and how many lack of the frame that they begin
+pub handed-over : (es : List Event) → toldHanded (silenced (after fresh es)) ≡ accepted (missing (take 255 (since [] es)) ∷ take 255 (since [] es))
 handed-over es =
     let xs = take 255 (since [] es) in
-    ap toldHanded (collected es) ∙ ap accepted (take-append-seam xs (drop (length xs) zeros))
+    ap toldHanded (collected es) ∙ ap (λ (l : List ℕ). accepted (missing xs ∷ l)) (front-held xs)
 
 -- and no byte is refused
 pub taken : (es : List Event) (b : ℕ) → toldPushed (pushed (after fresh es) b) ≡ accepted []
@@ -93,7 +100,7 @@ taken es b = ap (λ (c : Collector). toldPushed (pushed c b)) (holds [] es) ∙ 
 -- a count above 255 gives 20, and the state stays
 pub unfit-refused : (c : Collector) (b : ℕ) → 255 < c .count
     → (pushed c b ≡ record { answer = Refused 20; state = c })
-    × (silenced c ≡ record { answer = Refused 20; bytes = zeros; count = 0; state = c })
+    × (silenced c ≡ record { answer = Refused 20; bytes = zeros; count = 0; missing = 0; state = c })
 unfit-refused c b h =
     let e : true ≡ unfit (c .count) = sym (lt-ltb 255 (c .count) h) in
     (sym (push-unfit c true e b refl), sym (silence-unfit c true e refl))

@@ -1,4 +1,5 @@
 pub mod Answers
 pub mod Laws
+pub mod OnItsWay
 pub mod Order
 pub mod Unique

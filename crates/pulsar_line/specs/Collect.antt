@@ -9,6 +9,7 @@ use Rattle.wire.specs.Answer.{answered}
 use Rattle.wire.specs.Numbers.{over}
 use Rattle.wire.specs.Refusal.{Rule, _when_, first}
 use Rattle.wire.specs.Told.{Told, accepted, refused}
+use Rattle.pulsar_frame.specs.Reading.{missing}
 use Rattle.pulsar_line.specs.declared.Collector.{Collector}
 use Rattle.pulsar_line.specs.declared.Pushed.{Pushed}
 use Rattle.pulsar_line.specs.declared.Handed.{Handed}
@@ -41,14 +42,15 @@ pushed c b =
     (record { answer = Done; state = added (ltb (c .count) 255) c b })
     (first (collectorRules c))
 
--- "silence hands the collected bytes over and starts afresh"; where it is refused nothing is handed over
+-- "silence hands the collected bytes over and starts afresh"; "At silence the line collector tells" the missing count of them; where it is refused
+-- nothing is handed over
 unfoldable pub silenced : Collector → Handed
 silenced c =
-    answered (λ n. record { answer = Refused n; bytes = zeros; count = 0; state = c })
-    (record { answer = Done; bytes = c .bytes; count = c .count; state = fresh })
+    answered (λ n. record { answer = Refused n; bytes = zeros; count = 0; missing = 0; state = c })
+    (record { answer = Done; bytes = c .bytes; count = c .count; missing = missing (take (c .count) (c .bytes)); state = fresh })
     (first (collectorRules c))
 
--- ---- the paper's number and values: of a silence, the collected bytes
+-- ---- the paper's number and values: of a silence, the missing count and the collected bytes
 abbrev pub toldAnswer : Answer → List ℕ → Told
 toldAnswer Done values = accepted values
 toldAnswer (Refused n) values = refused n
@@ -56,8 +58,11 @@ toldAnswer (Refused n) values = refused n
 abbrev pub toldPushed : Pushed → Told
 toldPushed p = toldAnswer (p .answer) []
 
+abbrev pub handedBytes : Handed → List ℕ
+handedBytes h = take (h .count) (h .bytes)
+
 abbrev pub toldHanded : Handed → Told
-toldHanded h = toldAnswer (h .answer) (take (h .count) (h .bytes))
+toldHanded h = toldAnswer (h .answer) (h .missing ∷ handedBytes h)
 
 -- ---- what the promise speaks of
 
@@ -80,4 +85,4 @@ since bs (quiet ∷ es) = since [] es
 
 -- what is handed over where xs was collected
 abbrev pub handing : List ℕ → Handed
-handing xs = record { answer = Done; bytes = over zeros xs; count = length xs; state = fresh }
+handing xs = record { answer = Done; bytes = over zeros xs; count = length xs; missing = missing xs; state = fresh }

@@ -17,11 +17,13 @@ pub struct Pushed {
     pub state: Collector,
 }
 
-// What silence hands over: bytes, of which the first `count` were collected. Where it refuses, none.
+// What silence hands over: bytes, of which the first `count` were collected, and how many of the frame that they begin lack. Where it
+// refuses, none.
 pub struct Handed {
     pub answer: Answer,
     pub bytes: [u8; 255],
     pub count: usize,
+    pub missing: usize,
     pub state: Collector,
 }
 
@@ -72,15 +74,18 @@ pub fn silence(c: Collector) -> Handed
             answer: Answer::Refused(20),
             bytes: [0u8; 255],
             count: 0,
+            missing: 0,
             state: c,
         };
     }
     let bytes = c.bytes;
+    let missing = pulsar_frame::missing(wire::front(&bytes, count));
     let afresh = new();
     Handed {
         answer: Answer::Done,
         bytes: bytes,
         count: count,
+        missing: missing,
         state: afresh,
     }
 }

@@ -25,40 +25,43 @@ fn handed(c: Collector) -> bool {
     let h = silence(c);
     let n = h.count;
     let bytes = h.bytes;
-    say::line(&[0, n as u64], front(&bytes, n))
+    say::line(&[0, n as u64, h.missing as u64], front(&bytes, n))
 }
 
-// What each of the two calls answers, and the count that it leaves or hands over.
-fn both(pushed: Answer, after: usize, silent: Answer, over: usize) -> bool {
+// What each of the two calls answers, the count that it leaves or hands over, and how many bytes lack.
+fn both(pushed: Answer, after: usize, silent: Answer, over: usize, missing: usize) -> bool {
     match pushed {
         Answer::Done => match silent {
-            Answer::Done => say::numbers(&[0, after as u64, 0, over as u64]),
+            Answer::Done => say::numbers(&[0, after as u64, 0, over as u64, missing as u64]),
             Answer::Refused(m) => say::numbers(&[0, after as u64, m as u64]),
         },
         Answer::Refused(n) => match silent {
-            Answer::Done => say::numbers(&[n as u64, 0, over as u64]),
+            Answer::Done => say::numbers(&[n as u64, 0, over as u64, missing as u64]),
             Answer::Refused(m) => say::numbers(&[n as u64, m as u64]),
         },
     }
 }
 
-fn lent(count: usize, byte: u8) -> bool {
-    let c = Collector {
-        bytes: [0u8; 255],
-        count,
-    };
+fn lent(count: usize, byte: u8, len: u8) -> bool {
+    let mut bytes = [0u8; 255];
+    bytes[5] = len;
+    let c = Collector { bytes, count };
     let p = push(c, byte);
     let h = silence(c);
     let pushed = p.answer;
     let silent = h.answer;
     let after = p.state;
-    both(pushed, after.count, silent, h.count)
+    both(pushed, after.count, silent, h.count, h.missing)
 }
 
 pub fn answer(act: u8, numbers: &[u8], bytes: &[u8]) -> bool {
     if act == 14 {
         handed(collected(bytes))
     } else {
-        lent(size_at(numbers, 0), byte_at(numbers, 8))
+        lent(
+            size_at(numbers, 0),
+            byte_at(numbers, 8),
+            byte_at(numbers, 16),
+        )
     }
 }

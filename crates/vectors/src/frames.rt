@@ -22,6 +22,7 @@ fn frame(r: FrameRead, bytes: &[u8]) -> bool {
             ];
             say::line(&words, payload(bytes, f.len))
         }
+        FrameRead::Missing(lack) => say::numbers(&[9, lack as u64]),
         FrameRead::Refused(n) => say::refused(n),
     }
 }

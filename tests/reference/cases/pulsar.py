@@ -33,8 +33,8 @@ FAULTS_OF_THE_BYTES = [
     (3, {"address": bytes.fromhex("00F00000")}),
     (4, {"length": 9}),
     (4, {"length": 0}),
-    (4, {"length": 15}),
-    (4, {"length": 255}),
+    (9, {"length": 15}),
+    (9, {"length": 255}),
     (5, {"crc": 0x0001}),
     (5, {"crc": 0x8000}),
     (6, {"address": address_bytes(12_345_679)}),
@@ -89,6 +89,29 @@ def good_frames(rng):
                "asked function": function, "id": id, "asked id": id, "payload": rng.randbytes(rng.randrange(20))}
 
 
+# 02, W-205
+SOME_LENS = (9, 10, 11, 255)
+SOME_COUNTS = (9, 10, 11, 254, 255)
+
+
+def begun(address, length, received):
+    """So many bytes, which begin with a frame of that LEN or with its front; its CRC is good, and LEN 9 stands in a frame of ten bytes."""
+    return (frame({**GOOD, "address": address, "length": length, "payload": pattern(max(0, length - 10))}) + pattern(255))[:received]
+
+
+def due_for(length, received, earlier=0, later=0):
+    """2, an earlier fault of the bytes, 4, 9, a later fault."""
+    return 2 if received < 10 else earlier or (4 if length < 10 else 9 if length > received else later)
+
+
+def on_their_way(asked, of_another):
+    """Frames of each LEN of which so many bytes came, from the address asked, one that is not BCD, and another (6, at its place in the order)."""
+    for address, faults in (("12345678", {}), ("1234567A", {"earlier": 3}), ("12345679", of_another)):
+        for length in SOME_LENS:
+            for received in SOME_COUNTS:
+                yield asked, [begun(bytes.fromhex(address), length, received)], due_for(length, received, **faults)
+
+
 def damaged(rng):
     """Frames with one flipped bit as received, and with the CRC made anew over what was flipped."""
     sent = frame(GOOD)
@@ -104,12 +127,13 @@ def damaged(rng):
 
 
 def read_at_meter(rng):
-    yield from with_faults(at_meter, GOOD, METER_FAULTS, [1, 2, 3, 4, 5, 6, 7])
+    yield from with_faults(at_meter, GOOD, METER_FAULTS, [1, 2, 3, 4, 9, 5, 6, 7])
+    yield from on_their_way([12_345_678], {"later": 6})
     for plan in good_frames(rng):
         yield *at_meter(plan), 0
         yield *at_meter({**plan, "own": 1, "address": address_bytes(0)}), 0
     yield *at_meter({**GOOD, "payload": b"", "length": 9}), 4
-    yield *at_meter({**GOOD, "payload": b"", "length": 11}), 4
+    yield *at_meter({**GOOD, "payload": b"", "length": 11}), 9
     yield *at_meter({**GOOD, "length": 10}), 5
     yield *at_meter({**GOOD, "beyond": b"\x01", "length": 15}), 5
     for change in ({"payload": b""}, {"payload": pattern(245)}, {"address": address_bytes(0)}, {"beyond": pattern(3)}):
@@ -121,10 +145,11 @@ def read_at_meter(rng):
 
 
 def read_at_master(rng):
-    order = [1, 2, 3, 6, 7, 4, 5, 8]
+    order = [1, 2, 3, 6, 7, 4, 9, 5, 8]
     yield from with_faults(at_master, GOOD, MASTER_FAULTS, order)
+    yield from on_their_way([12_345_678, 6, 0xA55A], {"earlier": 6})
     yield from with_faults(at_master, {**GOOD, "asked address": 0}, [
-        (6, {"address": address_bytes(0)}), (7, {"function": 7}), (4, {"length": 9}), (8, {"asked id": 0})], order)
+        (6, {"address": address_bytes(0)}), (7, {"function": 7}), (4, {"length": 9}), (9, {"length": 15}), (8, {"asked id": 0})], order)
     for plan in good_frames(rng):
         yield *at_master(plan), 0
     yield *at_master({**GOOD, "function": 0}), 0
@@ -191,6 +216,10 @@ def collect(rng):
         yield [], [pattern(length)], 0
     yield [], [bytes(20)], 0
     yield [], [frame_bytes(1, 1, 7, b"\x05\x00\x00\x00") + b"\xFF"], 0
+    for length in SOME_LENS:
+        for received in (*SOME_COUNTS, 256, 300):
+            for address in ("12345678", "1234567A", "00000000"):
+                yield [], [begun(bytes.fromhex(address), length, received)], 0
     for _ in range(10):
         yield [], [rng.randbytes(rng.randrange(40))], 0
 
@@ -198,7 +227,9 @@ def collect(rng):
 def lent_collector(rng):
     for count in (0, 1, 2, 9, 10, 100, 127, 128, 253, 254, 255, 256, 257, 511, 512, 2 ** 32, 2 ** 32 + 1, 2 ** 63, WIDEST):
         for byte in (0, 1, 0x80, 0xFF):
-            yield [count, byte], [], 20 if count > 255 else 0
+            yield [count, byte, 0], [], 20 if count > 255 else 0
+        for length in (9, 10, 11, 128, 254, 255):
+            yield [count, 0xFF, length], [], 20 if count > 255 else 0
 
 
 CASES = {10: read_at_meter, 11: read_at_master, 12: write_request, 13: write_reply, 14: collect, 15: lent_collector}

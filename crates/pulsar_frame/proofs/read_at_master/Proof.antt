@@ -1,14 +1,27 @@
 -- `pulsar_frame::read_at_master` meets its contract.
 -- Assumes nothing.
 use mathlib.Core.Path.{ap, _∙_}
-use Rattle.pulsar_frame.specs.Reading.{readAnswer, readAtMaster}
+use denote.Ref.{now}
+use Rattle.wire.proofs.Answer.{answers-refused, answers-accepted}
+use Rattle.pulsar_frame.specs.Reading.{missing, frameOf, refusal, readAtMaster}
+use Rattle.pulsar_frame.specs.declared.FrameRead.the-variants.{Frame as Found}
 use borrow.Author.Needs.{needs}
 use Rattle.pulsar_frame.proofs.read_at_master.Statement.{statement}
 use Rattle.pulsar_frame.proofs.read_at_master.Tie as tie
 
 returns : tie.Need-returns
 unfolding readAtMaster
-returns c = c .answer .ensures ∙ ap (readAnswer _) (c .before .master-fault .ensures)
+returns c =
+    let s = now (c .before .before .before .before .args .bytes) in
+    c .refused .ensures
+    ∙ answers-refused (refusal (missing s)) (Found (frameOf s)) _ _ (c .before .before .fault .ensures) (c .before .if1 .taken)
+
+returns-2 : tie.Need-returns-2
+unfolding readAtMaster
+returns-2 c =
+    let s = now (c .before .before .before .before .args .bytes) in
+    answers-accepted (refusal (missing s)) (Found (frameOf s)) _ _ _ (c .before .before .fault .ensures) (c .before .if1 .left)
+    (ap Found (c .frame-of .ensures))
 
 pub read-at-master-spec : {M : Type 1} → statement M
-read-at-master-spec = tie.close (tie.spec (λ c κs. search needs) (λ c κs. search needs) returns)
+read-at-master-spec = tie.close (tie.spec (λ c κs. search needs) (λ c κs. search needs) returns (λ c κs. search needs) returns-2)

@@ -1,15 +1,14 @@
--- `pulsar_frame::refuse::master_fault` meets its contract.
+-- `pulsar_frame::master::later_fault` meets its contract.
 -- Assumes nothing.
 use Rattle.wire.proofs.Refusal.{hit, skip}
 use borrow.Author.Needs.{needs}
-use Rattle.pulsar_frame.proofs.refuse.master_fault.Statement.{statement}
-use Rattle.pulsar_frame.proofs.refuse.master_fault.Tie as tie
+use Rattle.pulsar_frame.proofs.master.later_fault.Statement.{statement}
+use Rattle.pulsar_frame.proofs.master.later_fault.Tie as tie
 
-pub master-fault-spec : {M : Type 1} → statement M
-master-fault-spec =
+pub later-fault-spec : {M : Type 1} → statement M
+later-fault-spec =
     tie.close
     (tie.spec (λ c κs. search needs) (λ c. search (hit, skip) depth 12) (λ c κs. search needs) (λ c. search (hit, skip) depth 12)
-    (λ c κs. search needs) (λ c. search (hit, skip) depth 12) (λ c κs. search needs) (λ c. search (hit, skip) depth 12)
     (λ c κs. search needs) (λ c. search (hit, skip) depth 12) (λ c κs. search needs) (λ c. search (hit, skip) depth 12)
     (λ c κs. search needs) (λ c. search (hit, skip) depth 12) (λ c κs. search needs) (λ c. search (hit, skip) depth 12)
     (λ c. search skip depth 12))
