@@ -9,12 +9,14 @@ use lib.Dec.{eqb}
 use lib.ListN.{length, take, drop, length-append, List·getD-append}
 use borrow.Author.Tests.{eqb-true, eqb-false, ne-eqb, lt-ltb, ltb-true, ltb-false}
 use Rattle.wire.specs.Refusal.{Rule, _when_, pick, first, NoneHolds}
+use Rattle.wire.proofs.Answer.{answers-refused, answers-accepted}
 use Rattle.wire.proofs.Refusal.{first-skips}
 use Rattle.pulsar_frame.specs.Layout.{lenOf}
-use Rattle.pulsar_frame.specs.Reading.{tooShort, onItsWay, missing, meterRules, masterRules, refusedAs, refusal, readAnswer, readAtMeter, readAtMaster, toldFrameRead}
+use Rattle.pulsar_frame.specs.Reading.{tooShort, onItsWay, missing, meterRules, masterRules, frameOf, refusedAs, refusal, readAnswer, readAtMeter, readAtMaster, toldFrameRead}
 use Rattle.pulsar_frame.specs.Promise.{TellsMissing}
+use Rattle.pulsar_frame.specs.declared.Frame.{Frame}
 use Rattle.pulsar_frame.specs.declared.FrameRead.{FrameRead}
-use Rattle.pulsar_frame.specs.declared.FrameRead.the-variants.{Missing, Refused}
+use Rattle.pulsar_frame.specs.declared.FrameRead.the-variants.{Frame as Found, Missing, Refused}
 
 -- a refusal tells its number
 pub refusal-tells : (lack n : ℕ) → toldFrameRead (refusal lack n) .number ≡ n
@@ -27,6 +29,14 @@ refusal-tells lack n = go (eqb n 9) refl
 -- all but 9 are told alone
 pub refused-alone : (lack n : ℕ) → (n ≡ 9 → ⊥) → Refused n ≡ refusal lack n
 refused-alone lack n other = sym (ap (λ (b : Bool). refusedAs b lack n) (ne-eqb n 9 other))
+
+-- for the readers: r is what the judge of a side answered, n the number of the side's first rule
+module _ (s : List ℕ) (r n : ℕ) (e : r ≡ n) where
+  pub refuses : (a : FrameRead) → a ≡ refusal (missing s) r → (r ≡ 0 → ⊥) → a ≡ readAnswer s n
+  refuses a ea some = ea ∙ answers-refused (refusal (missing s)) (Found (frameOf s)) r n e some
+
+  pub finds : (fr : Frame) → fr ≡ frameOf s → r ≡ 0 → Found fr ≡ readAnswer s n
+  finds fr ef none = answers-accepted (refusal (missing s)) (Found (frameOf s)) r n (Found fr) e none (ap Found ef)
 
 -- an answer that tells a count has refusal 9, and the count is that of the bytes
 told-nine : (s : List ℕ) (n k : ℕ) → readAnswer s n ≡ Missing k → n ≡ 9
