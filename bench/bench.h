@@ -6,6 +6,7 @@
 /* bytes: LEN; of refusal 9, how many lack */
 struct frame { uint8_t refused, function; uint16_t id; uint32_t address; size_t bytes; };
 struct rtu { uint8_t refused, address, function; };
+struct ascii { uint8_t refused, address, function; size_t length; };
 struct step { uint8_t refused; bool complete, under_way; uint16_t session; size_t reached, count; };
 struct date { uint8_t year, month, day, hour, minute, second; };
 struct difference { uint8_t refused; int64_t seconds; };
@@ -21,6 +22,10 @@ struct frame rattle_read_at_master(uint32_t asked, uint8_t function, uint16_t id
 struct frame plain_read_at_master(uint32_t asked, uint8_t function, uint16_t id, const uint8_t *bytes, size_t n);
 struct rtu rattle_read_rtu(const uint8_t *bytes, size_t n);
 struct rtu plain_read_rtu(const uint8_t *bytes, size_t n);
+struct ascii rattle_read_ascii(const uint8_t *chars, size_t n, uint8_t *out, size_t room);
+struct ascii plain_read_ascii(const uint8_t *chars, size_t n, uint8_t *out, size_t room);
+uint8_t rattle_write_ascii(uint8_t address, uint8_t function, const uint8_t *data, size_t n, uint8_t *out, size_t room);
+uint8_t plain_write_ascii(uint8_t address, uint8_t function, const uint8_t *data, size_t n, uint8_t *out, size_t room);
 struct step rattle_receive(uint16_t session, bool under_way, size_t count, const uint8_t *frame, size_t n, uint8_t *buffer, size_t room);
 struct step plain_receive(uint16_t session, bool under_way, size_t count, const uint8_t *frame, size_t n, uint8_t *buffer, size_t room);
 struct fields rattle_read_card(const uint8_t *bytes, size_t n);

@@ -98,6 +98,24 @@ static void check_rtu(const uint8_t *p, size_t n, unsigned *good)
     *good += !a.refused;
 }
 
+static void check_ascii(const uint8_t *p, size_t n, size_t room, unsigned *good)
+{
+    uint8_t one[300], other[300];
+    memset(one, 0x5A, sizeof one), memset(other, 0x5A, sizeof other);
+    struct ascii a = rattle_read_ascii(p, n, one, room), b = plain_read_ascii(p, n, other, room);
+    if (a.refused != b.refused || a.address != b.address || a.function != b.function || a.length != b.length || memcmp(one, other, sizeof one)) differ("read_ascii");
+    *good += !a.refused;
+}
+
+static void check_write_ascii(const uint8_t *data, size_t n, size_t room, unsigned *good)
+{
+    uint8_t one[600], other[600], address = chance(256), function = chance(256);
+    memset(one, 0x5A, sizeof one), memset(other, 0x5A, sizeof other);
+    uint8_t a = rattle_write_ascii(address, function, data, n, one, room), b = plain_write_ascii(address, function, data, n, other, room);
+    if (a != b || memcmp(one, other, sizeof one)) differ("write_ascii");
+    *good += !a;
+}
+
 static void check_receive(uint16_t session, bool under_way, size_t count, const uint8_t *p, size_t n, size_t room, unsigned *good)
 {
     uint8_t one[1000], other[1000];
@@ -135,7 +153,7 @@ static void check_clock(struct date meter, struct date cabinet, unsigned *good)
 static int check(void)
 {
     static uint8_t p[10000];
-    unsigned frames = 0, lines = 0, received = 0, clocks = 0, read = 0, written = 0;
+    unsigned frames = 0, lines = 0, texts = 0, made = 0, received = 0, clocks = 0, read = 0, written = 0;
     for (size_t n = 0; n < 600; n++) {
         random_bytes(p, n);
         if (rattle_checksum(p, n) != plain_checksum(p, n)) differ("checksum");
@@ -158,6 +176,15 @@ static int check(void)
         damage(p, line);
         check_rtu(p, line, &lines);
         check_rtu(p, chance(5), &lines);
+
+        size_t bytes = chance(254);
+        random_bytes(p, bytes);
+        check_write_ascii(p, bytes, 2 * bytes + 8 + chance(3), &made);
+        plain_write_ascii(chance(256), 3, p, bytes, p + 300, 600);
+        check_ascii(p + 300, 9 + 2 * bytes, bytes + chance(3) - !!bytes, &texts);
+        damage(p + 300, 9 + 2 * bytes);
+        check_ascii(p + 300, 9 + 2 * bytes, 252, &texts);
+        check_ascii(p + 300, chance(12), 252, &texts);
 
         uint16_t flags = chance(9) ? 2 * chance(4) : chance(16);
         size_t count = 1 + chance(400), offset = chance(2) ? count : chance(500);
@@ -199,9 +226,9 @@ static int check(void)
         }
         check_write_card(c, 17, &written);
     }
-    fprintf(stderr, "the same answers: 600 checksums, as many in two stretches, 60,000 frames at the meter and at the master (%u accepted), 60,000 RTU lines (%u), 40,000 parts (%u), 60,000 clocks (%u), 40,000 cards read (%u) and 60,000 written (%u)\n",
-            frames, lines, received, clocks, read, written);
-    if (frames < 35000 || lines < 19000 || received < 1000 || clocks < 20000 || read < 20000 || written < 20000) {
+    fprintf(stderr, "the same answers: 600 checksums, as many in two stretches, 60,000 frames at the meter and at the master (%u accepted), 60,000 RTU lines (%u), 60,000 ASCII lines (%u) and 20,000 written (%u), 40,000 parts (%u), 60,000 clocks (%u), 40,000 cards read (%u) and 60,000 written (%u)\n",
+            frames, lines, texts, made, received, clocks, read, written);
+    if (frames < 35000 || lines < 19000 || texts < 10000 || made < 10000 || received < 1000 || clocks < 20000 || read < 20000 || written < 20000) {
         fprintf(stderr, "too few inputs are accepted\n");
         return 1;
     }
@@ -248,6 +275,13 @@ int main(int argc, char **argv)
     } else if (!strcmp(work, "rtu")) {
         make_rtu(p, n);
         while (reps--) sum += BOTH(read_rtu, p, n).function;
+    } else if (!strcmp(work, "ascii")) {
+        random_bytes(buffer, (n - 9) / 2);
+        plain_write_ascii(1, 3, buffer, (n - 9) / 2, p, n);
+        while (reps--) sum += BOTH(read_ascii, p, n, buffer, sizeof buffer).length;
+    } else if (!strcmp(work, "line")) {
+        random_bytes(p, (n - 9) / 2);
+        while (reps--) sum += BOTH(write_ascii, 1, 3, p, (n - 9) / 2, buffer, n) + buffer[5];
     } else if (!strcmp(work, "receive")) {
         make_part(p, 7, 240, 0, n);
         while (reps--) sum += BOTH(receive, 7, true, 240, p, 12 + n, buffer, sizeof buffer).count;

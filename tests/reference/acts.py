@@ -10,6 +10,8 @@ import sm160
 from cases.making import changed
 from crc import crc16
 from dates import NO_DATE, is_date
+from digits import digit, digit_of
+from lrc import lrc, summed
 
 
 def told(refusal, *values):
@@ -45,6 +47,21 @@ def stretches(numbers, strings):
     """What 02 asks of the two calls: the sum of the first stretch, and then that of the whole."""
     first, second = strings
     return told(0, crc16(first, start=numbers[0]), crc16(first + second, start=numbers[0]))
+
+
+def sum_byte(numbers, strings):
+    before, byte = numbers
+    return told(0, summed([byte], start=before))
+
+
+def sum_stretches(numbers, strings):
+    """As stretches, of the sum modulo 256."""
+    first, second = strings
+    return told(0, summed(first, start=numbers[0]), summed(first + second, start=numbers[0]))
+
+
+def of_a_byte(numbers, strings):
+    return told(0, lrc(bytes(numbers)), digit(*numbers), digit_of(*numbers))
 
 
 def date(numbers, strings):
@@ -150,6 +167,11 @@ def write_reply_body(numbers, strings):
     return told(refusal, length) + [output]
 
 
+def read_ascii(numbers, strings):
+    refusal, fields, output = modbus.read_ascii(*strings)
+    return told(refusal, *(fields or ())) + [output]
+
+
 def send(numbers, strings):
     session, largest, place = numbers
     file, output = strings
@@ -202,6 +224,8 @@ ACTS = {
     31: ("write_rtu", [17, 16], writer(modbus.write_rtu)),
     32: ("read_tcp", [40, 41, 42, 43], reader(modbus.read_tcp)),
     33: ("write_tcp", [17, 16], writer(modbus.write_tcp)),
+    34: ("read_ascii", [60, 61, 62, 63, 64, 16], read_ascii),
+    35: ("write_ascii", [17, 16], writer(modbus.write_ascii)),
     40: ("SM160 read_frame", [21, 22, 23, 24, 25], reader(sm160.read_frame)),
     41: ("SM160 write_frame", [23, 25, 16], writer(sm160.write_frame)),
     42: ("send", [32, 33, 34, 16], send),
@@ -210,4 +234,7 @@ ACTS = {
     51: ("write_card", [52, 53, 55, 16], write_card),
     52: ("put_line", [16], writer(card.put_line)),
     60: ("clock_difference", [13, 53], clock_difference),
+    61: ("sum_byte", [], sum_byte),
+    62: ("sum_from", [], sum_stretches),
+    63: ("lrc, digit", [], of_a_byte),
 }

@@ -3,6 +3,7 @@
 FRAMES: the eight packets of the SM160 paper (001, 2.3.7) that hold a file frame, sessions 1 and 2, Modbus TCP, as the traffic has them.
 MODBUS_PACKETS: these, the paper's "Modbus Next" and its log-in packets.
 MODBUS_LINES: RTU lines of public texts on Modbus.
+ASCII_LINES: ASCII lines of such texts.
 """
 
 
@@ -75,3 +76,5 @@ MODBUS_LINES = packets("""\
 01 04 02 FF FF B8 80
 
 01 03 00 00 00 0A C5 CD""")
+
+ASCII_LINES = [b":F7031389000A60\r\n", b":1103006B00037E\r\n"]

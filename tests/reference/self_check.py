@@ -1,4 +1,4 @@
-"""The reference against what it was not made from: printed traffic, published check values, 01's edges and its card, python's calendar."""
+"""The reference against what it was not made from: printed traffic, published check values and functions, 01's edges and its card, python's calendar."""
 import calendar
 import datetime
 import itertools
@@ -13,7 +13,9 @@ import readings
 import sm160
 from crc import crc16, low_byte_first
 from dates import is_date
-from printed import FRAMES, MODBUS_LINES, MODBUS_PACKETS
+from digits import digit, digit_of
+from lrc import lrc
+from printed import ASCII_LINES, FRAMES, MODBUS_LINES, MODBUS_PACKETS
 
 CARD = bytes.fromhex("00 00 00 20 00 21 00 00 40 00 00 00 00 00 00 00 A0")
 LISTING = "address;channel;time;kind;bits\n00000001;1;2000-01-01 00:00:00;2;0000000000000005\n"
@@ -82,6 +84,41 @@ def modbus_examples():
         refusal, fields = modbus.read_tcp(packet)
         same("printed TCP packet", refusal, 0)
         same("printed TCP packet written", modbus.write_tcp(*fields, bytes(len(packet))), (0, len(packet), packet))
+    for line in ASCII_LINES:
+        message = bytes.fromhex(line[1:-4].decode())
+        address, function, data = message[0], message[1], message[2:]
+        output = bytes(len(data) + 1)
+        same("public ASCII line", modbus.read_ascii(line, output), (0, (address, function, len(data)), data + b"\x00"))
+        same("public ASCII line written", modbus.write_ascii(address, function, data, bytes(len(line))), (0, len(line), line))
+        same("public ASCII line in lower case", modbus.read_ascii(line.lower(), output), (63, None, output))
+
+
+# 003, appendix 2
+CHAR_TO_BIN = [0, 1, 2, 3, 4, 5, 6, 7, 8, 9, 0, 0, 0, 0, 0, 0, 0, 10, 11, 12, 13, 14, 15]
+BIN_TO_CHAR = "0123456789ABCDEF"
+
+
+def functions_of_003():
+    """Its LRC (appendix 1) and its digits (appendix 2)."""
+    for byte in range(256):
+        is_digit = ord("0") <= byte <= ord("9") or ord("A") <= byte <= ord("F")
+        same(f"LRC of {byte}", lrc(bytes([byte])), (~byte + 1) % 256)
+        same(f"digit {byte}", digit_of(byte), CHAR_TO_BIN[byte - 0x30] if is_digit else 16)
+        same(f"digit of {byte}", digit(byte), ord(BIN_TO_CHAR[byte]) if byte < 16 else 0)
+    same("LRC of many bytes", lrc(b"\xFF" * 254), (~(254 * 255) + 1) % 256)
+
+
+def ascii_lengths():
+    """W-201's limits, and 16 where the output is too short; a refusal leaves the output."""
+    def answered(data, room):
+        return modbus.read_ascii(b":" + (b"00" * (data + 3)) + b"\r\n", b"\x5A" * room)
+    same("9 characters", answered(0, 0), (0, (0, 0, 0), b""))
+    same("7 characters", answered(-1, 1), (60, None, b"\x5A"))
+    same("513 characters", answered(252, 253), (0, (0, 0, 252), bytes(252) + b"\x5A"))
+    same("515 characters", answered(253, 253), (61, None, b"\x5A" * 253))
+    same("513 characters, room for 251 bytes", answered(252, 251), (16, None, b"\x5A" * 251))
+    same("252 bytes", modbus.write_ascii(0, 0, bytes(252), bytes(513)), (0, 513, b":" + b"0" * 510 + b"\r\n"))
+    same("253 bytes", modbus.write_ascii(0, 0, bytes(253), bytes(515)), (17, None, bytes(515)))
 
 
 def edges():
@@ -162,7 +199,7 @@ def seconds():
 
 
 def check():
-    for one in (checksums, printed_frames, printed_sessions, modbus_examples, edges, on_its_way, lister, collector, dates, seconds):
+    for one in (checksums, printed_frames, printed_sessions, modbus_examples, functions_of_003, ascii_lengths, edges, on_its_way, lister, collector, dates, seconds):
         one()
 
 

@@ -10,35 +10,29 @@ ghost use lib.Seq.{sets};
 ghost use mathlib.Core.List.{[], _∷_, _++_};
 ghost use Rattle.wire.specs.Refusal.{first};
 ghost use Rattle.wire.specs.Writes.{Writes};
-ghost use Rattle.card_text.specs.Text.{ascii, digit, numeral, Stored};
+ghost use Rattle.wire.specs.Digits.{ascii};
+ghost use Rattle.card_text.specs.Text.{numeral, Stored};
 ghost use lib.Dec.{ltb};
 ghost use Rattle.card_text.specs.Lines.{cardCount, readAt, linesOf, lines};
 ghost use Rattle.card_text.specs.Line.{plainWidth, header, timeText, cardLine, refusedLine, lineOf, tooSmall, roomRules};
 
-fn digit(d: u64) -> u8
-    requires { ⌜ d < 16 ⌝ }
-    ensures { λ r. ⌜ r ≡ digit d ⌝ }
-{
-    wire::byte_at(b"0123456789ABCDEF", d as usize)
-}
-
 // v with w digits in a base.
 fn put_number(out: &mut [u8], at: usize, base: u64, w: usize, v: u64)
-    requires { ⌜ (at < 256) × (0 < base) × (base ≤ 16) × (w ≤ 16) ⌝ }
+    requires { ⌜ (at < 256) × (0 < base) × (w ≤ 16) ⌝ }
     ensures { λ _. ⌜ now (out .exit) ≡ sets (now (out .entry)) at (numeral base w v) ⌝ }
 {
     let mut left = v;
     let mut i = w;
     while 0 < i {
         i -= 1;
-        wire::put(out, at + i, digit(left % base));
+        wire::put(out, at + i, wire::digit(left % base));
         left /= base;
     }
 }
 
 // And what ends it; the answer is the place after that.
 fn put_field(out: &mut [u8], at: usize, base: u64, w: usize, v: u64, end: u8) -> usize
-    requires { ⌜ (at < 256) × (0 < base) × (base ≤ 16) × (w ≤ 16) ⌝ }
+    requires { ⌜ (at < 256) × (0 < base) × (w ≤ 16) ⌝ }
     ensures { λ r. ⌜ Stored (now (out .entry)) at (numeral base w v ++ (end ∷ [])) (now (out .exit)) r × (r ≤ at + 17) ⌝ }
 {
     put_number(out, at, base, w, v);

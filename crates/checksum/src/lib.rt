@@ -1,6 +1,8 @@
-// CRC-16 with the reflected polynomial A001, low bit first, no final change. It is sent low byte first.
+// CRC-16 with the reflected polynomial A001, low bit first, no final change; it is sent low byte first. And the LRC of Modbus ASCII.
 ghost use mathlib.Core.Path.{_≡_};
+ghost use Prim.Native.Nat.{_+_, _%_};
 ghost use Rattle.checksum.specs.Crc.{crcBits, crcByte, crcFrom, crc};
+ghost use Rattle.checksum.specs.Sums.{sumFrom, closing};
 ghost use Rattle.checksum.specs.Table.{fours};
 
 // Four bits of each remainder below 16. It is laid out once for a message and lent: indexed where it stands, it would be laid out at each step.
@@ -58,4 +60,31 @@ pub fn checksum(bytes: &[u8]) -> u16
     ensures { λ r. ⌜ r ≡ crc (now (bytes .entry)) ⌝ }
 {
     checksum_from(0xFFFF, bytes)
+}
+
+// One byte more of a sum modulo 256.
+pub fn sum_byte(sum: u8, b: u8) -> u8
+    ensures { λ r. ⌜ r ≡ (sum + b) % 256 ⌝ }
+{
+    ((sum as u16 + b as u16) % 256) as u8
+}
+
+// From a sum: a message in several stretches is summed one stretch after the other.
+pub fn sum_from(sum: u8, bytes: &[u8]) -> u8
+    ensures { λ r. ⌜ r ≡ sumFrom sum (now (bytes .entry)) ⌝ }
+{
+    let mut c = sum;
+    let mut i = 0;
+    while i < bytes.len() {
+        c = sum_byte(c, bytes[i]);
+        i += 1;
+    }
+    c
+}
+
+// The LRC of bytes with this sum.
+pub fn lrc(sum: u8) -> u8
+    ensures { λ r. ⌜ r ≡ closing sum ⌝ }
+{
+    ((256 - sum as u16) % 256) as u8
 }

@@ -6,9 +6,9 @@ use lib.ListN.{length, replicate}
 use Rattle.checksum.specs.Crc.{crcFrom, crcBits}
 use Rattle.wire.specs.Numbers.{le, ofLe, be, ofBe, digits, number, field}
 use Rattle.wire.specs.Refusal.{first, pick}
-use Rattle.modbus.specs.Envelope.{writeRules}
-use Rattle.modbus.specs.Rtu.{rtuBytes, rtuRules}
-use Rattle.modbus.specs.Tcp.{tcpHead, tcpBytes, tcpRules}
+use Rattle.modbus.specs.Envelope.{message, bytesOf, writeRules}
+use Rattle.modbus.specs.Rtu.{rtu, rtuRules}
+use Rattle.modbus.specs.Tcp.{tcpHead, tcp, tcpRules}
 use Rattle.modbus.specs.Printed.{allRead, printed}
 
 -- under 4 and above 256 bytes; between, zeros have a wrong CRC
@@ -25,18 +25,18 @@ tcp-lengths = (refl, refl, refl, refl)
 
 -- data of 252 bytes in outputs of 256 and 255, of 253 in an output of 255
 pub rtu-rooms :
-    (first (writeRules (replicate 252 0) (length (rtuBytes 1 3 (replicate 252 0))) (replicate 256 0)) ≡ 0)
-    × (first (writeRules (replicate 252 0) (length (rtuBytes 1 3 (replicate 252 0))) (replicate 255 0)) ≡ 16)
-    × (first (writeRules (replicate 253 0) (length (rtuBytes 1 3 (replicate 253 0))) (replicate 255 0)) ≡ 17)
-unfolding pick rtuBytes le digits
+    (first (writeRules (replicate 252 0) (length (bytesOf rtu (message 1 3 (replicate 252 0)))) (replicate 256 0)) ≡ 0)
+    × (first (writeRules (replicate 252 0) (length (bytesOf rtu (message 1 3 (replicate 252 0)))) (replicate 255 0)) ≡ 16)
+    × (first (writeRules (replicate 253 0) (length (bytesOf rtu (message 1 3 (replicate 253 0)))) (replicate 255 0)) ≡ 17)
+unfolding pick bytesOf le digits
 rtu-rooms = (refl, refl, refl)
 
 -- the same in outputs of 260 and 259
 pub tcp-rooms :
-    (first (writeRules (replicate 252 0) (length (tcpBytes 1 2 3 (replicate 252 0))) (replicate 260 0)) ≡ 0)
-    × (first (writeRules (replicate 252 0) (length (tcpBytes 1 2 3 (replicate 252 0))) (replicate 259 0)) ≡ 16)
-    × (first (writeRules (replicate 253 0) (length (tcpBytes 1 2 3 (replicate 253 0))) (replicate 259 0)) ≡ 17)
-unfolding pick tcpBytes tcpHead be digits
+    (first (writeRules (replicate 252 0) (length (bytesOf (tcp 1) (message 2 3 (replicate 252 0)))) (replicate 260 0)) ≡ 0)
+    × (first (writeRules (replicate 252 0) (length (bytesOf (tcp 1) (message 2 3 (replicate 252 0)))) (replicate 259 0)) ≡ 16)
+    × (first (writeRules (replicate 253 0) (length (bytesOf (tcp 1) (message 2 3 (replicate 253 0)))) (replicate 259 0)) ≡ 17)
+unfolding pick bytesOf tcpHead be digits
 tcp-rooms = (refl, refl, refl)
 
 pub printed-packets-read : T (allRead printed)

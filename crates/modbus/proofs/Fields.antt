@@ -1,7 +1,6 @@
--- Address, function, data and limits, once for every envelope, over its head and tail: of what was written, and of what was read.
+-- Address, function and data, once for every envelope, over its head and tail: of plain bytes that were written, and of those that were read.
 -- Assumes nothing.
 use mathlib.Core.Path.{_≡_, sym, ap, ap₂, _∙_}
-use mathlib.Core.Bool.{false}
 use mathlib.Core.List.{List, [], _∷_, _++_, append-assoc}
 use Prim.Native.Nat.{ℕ, suc, _+_, _-_, _≤_}
 use native.Mathlib.Numerals.{add-one}
@@ -10,17 +9,18 @@ use lib.ListN.{length, getD, take, drop, length-append, length-drop, take-append
 use lib.Seq.{getD-at, take-at, drop-at, drop-cons, drop-drop, take-all, length-take-le}
 use borrow.Author.Tests.{le-ltb, ltb-false}
 use Rattle.wire.specs.Numbers.{field, over}
+use Rattle.wire.specs.Refusal.{Rule}
 use Rattle.wire.specs.declared.Written.{Written}
 use Rattle.wire.specs.declared.Written.the-variants.{Length}
 use Rattle.wire.proofs.Fields.{field-take}
 use Rattle.wire.proofs.Refusal.{first-none, none-first}
 use Rattle.wire.proofs.Writes.{wrote-front, wrote-all}
-use Rattle.modbus.specs.Envelope.{message, enveloped, addressOf, functionOf, dataOf, tooShort, tooLong, writeRules, WritesEnvelope}
+use Rattle.modbus.specs.Envelope.{Message, Envelope, message, contentOf, enveloped, bytesOf, addressOf, functionOf, dataOf, writeRules, WritesEnvelope}
 
 -- ---- what was written
 module _ (head tail : List ℕ) (before after : ℕ) (hb : length head ≡ before) (ha : length tail ≡ after) (a f : ℕ) (d : List ℕ) where
   abbrev S : List ℕ
-  S = enveloped head (message a f d) tail
+  S = enveloped head (contentOf (message a f d)) tail
 
   pub written-length : length S ≡ before + 2 + length d + after
   written-length = simp length-append (omega arith)
@@ -44,19 +44,10 @@ module _ (head tail : List ℕ) (before after : ℕ) (hb : length head ≡ befor
       ∙ ap (take k) (drop-at (head ++ pair) (d ++ tail) (before + 2) two)
       ∙ take-at d tail k rest
 
-  pub written-long : tooShort before after S ≡ false
-  written-long = le-ltb (length S) (before + 2 + after) (omega (arith, written-length))
-
-  pub written-fits : length d ≤ 252 → tooLong before after S ≡ false
-  written-fits h = le-ltb (before + 2 + 252 + after) (length S) (omega (arith, written-length))
-
 -- ---- what was read
-module _ (before after : ℕ) (s : List ℕ) (long : tooShort before after s ≡ false) where
+module _ (before after : ℕ) (s : List ℕ) (least : before + 2 + after ≤ length s) where
   abbrev pub Read : List ℕ
-  Read = message (addressOf before s) (functionOf before s) (dataOf before after s)
-
-  least : before + 2 + after ≤ length s
-  least = ltb-false (length s) (before + 2 + after) long
+  Read = contentOf (message (addressOf before s) (functionOf before s) (dataOf before after s))
 
   pub read-message : Read ≡ take (length s - (before + after)) (drop before s)
   read-message =
@@ -86,9 +77,6 @@ module _ (before after : ℕ) (s : List ℕ) (long : tooShort before after s ≡
       let within : k ≤ length (drop (before + 2) s) = rw length-drop (omega (arith, least)) in
       omega (arith, least, length-take-le k (drop (before + 2) s) within)
 
-  pub read-small : tooLong before after s ≡ false → length (dataOf before after s) ≤ 252
-  read-small h = omega (arith, read-length, ltb-false (before + 2 + 252 + after) (length s) h)
-
   -- the last bytes, as a field
   pub read-tail : field s (length s - after) after ≡ drop (length s - after) s
   read-tail =
@@ -97,15 +85,18 @@ module _ (before after : ℕ) (s : List ℕ) (long : tooShort before after s ≡
       field-take s (length s - after) after at ∙ take-all after (drop (length s - after) s) all
 
 -- ---- what a writer owes
-module _ (d bs out : List ℕ) (r : Written) (out′ : List ℕ) (w : WritesEnvelope d bs out r out′) where
+module _ (e : Envelope) (m : Message) (out : List ℕ) (r : Written) (out′ : List ℕ) (w : WritesEnvelope e m out r out′) where
+  abbrev rules : List Rule
+  rules = writeRules (m .«data») (length (bytesOf e m)) out
+
   -- an answered length: the data is no longer than 252, and the output begins with the envelope, so long
-  pub written-front : (k : ℕ) → r ≡ Length k → (length d ≤ 252) × (take k out′ ≡ bs)
-  written-front k e =
-      let front = wrote-front _ bs out r out′ k w e in
-      (ltb-false 252 (length d) (none-first (writeRules d (length bs) out) tt (front .0) .0), front .1)
+  pub written-front : (k : ℕ) → r ≡ Length k → (length (m .«data») ≤ 252) × (take k out′ ≡ bytesOf e m)
+  written-front k q =
+      let front = wrote-front _ (bytesOf e m) out r out′ k w q in
+      (ltb-false 252 (length (m .«data»)) (none-first rules tt (front .0) .0), front .1)
 
   -- data of up to 252 bytes, and an output with room: it is written
-  pub written-whole : length d ≤ 252 → length bs ≤ length out → (r ≡ Length (length bs)) × (out′ ≡ over out bs)
+  pub written-whole : length (m .«data») ≤ 252 → length (bytesOf e m) ≤ length out → (r ≡ Length (length (bytesOf e m))) × (out′ ≡ over out (bytesOf e m))
   written-whole small room =
-      wrote-all _ bs out r out′ w
-      (first-none (writeRules d (length bs) out) (le-ltb 252 (length d) small, (le-ltb (length out) (length bs) room, tt)))
+      wrote-all _ (bytesOf e m) out r out′ w
+      (first-none rules (le-ltb 252 (length (m .«data»)) small, (le-ltb (length out) (length (bytesOf e m)) room, tt)))

@@ -1,6 +1,8 @@
 pub mod Stores
 pub mod Answers
 pub mod Fields
+pub mod Lawful
+pub mod Promise
 pub mod RoundTrip
 pub mod Order
 pub mod Stretches

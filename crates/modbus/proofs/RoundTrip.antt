@@ -1,205 +1,220 @@
--- The round trips of both envelopes: what is written reads back as the same fields, and what is accepted, written again, gives the same
--- bytes. All that the envelopes share is in Fields; here are RTU's CRC and TCP's head.
+-- RTU and TCP are lawful, and so keep the promises: here are RTU's CRC and TCP's head, and what their readers answer.
 -- Assumes nothing.
-use mathlib.Core.Path.{_≡_, refl, sym, ap, ap₂, _∙_, subst}
+use mathlib.Core.Path.{_≡_, refl, sym, ap, ap₂, _∙_}
 use mathlib.Core.Bool.{false, not}
 use mathlib.Core.List.{List, [], _++_, append-assoc, append-nil}
 use Prim.Native.Nat.{ℕ, _+_, _-_, _<_, _≤_}
 use native.Mathlib.Nat.{sub-zero}
 use native.Mathlib.Omega.{arith}
 use lib.Dec.{eqb, lit<}
-use lib.ListN.{length, take, drop, length-append, length-drop}
+use lib.ListN.{length, take, drop, length-append, length-drop, take-append-drop}
 use lib.Seq.{take-at, drop-at, drop-length}
-use borrow.Author.Tests.{eq-eqb, eqb-true, not-false}
+use borrow.Author.Tests.{eq-eqb, eqb-true, not-false, le-ltb, ltb-false}
 use Rattle.checksum.specs.Crc.{crc}
 use Rattle.checksum.proofs.Laws.{crcFrom-lt}
 use Rattle.wire.specs.Each.{Bytes}
-use Rattle.wire.specs.Numbers.{le, ofLe, be, ofBe, field, over}
+use Rattle.wire.specs.Numbers.{le, ofLe, be, ofBe, field}
 use Rattle.wire.specs.Refusal.{first, NoneHolds}
-use Rattle.wire.specs.declared.Written.{Written}
-use Rattle.wire.specs.declared.Written.the-variants.{Length}
 use Rattle.wire.proofs.Answer.{answered-none, accepted-as}
 use Rattle.wire.proofs.Fields.{field-at, field-take, field-append, field-bytes, length-field, number-at, number-again}
 use Rattle.wire.proofs.Numbers.{length-be, length-le, ofBe-be, be-ofBe}
 use Rattle.wire.proofs.Refusal.{first-none, none-first}
-use Rattle.modbus.specs.Envelope.{message, enveloped, addressOf, functionOf, WritesEnvelope}
-use Rattle.modbus.specs.Rtu.{rtuBytes, crcOf, coveredOf, rtuData, badCrc, rtuRules, rtuOf, readRtu, toldRtuRead}
-use Rattle.modbus.specs.Tcp.{tcpHead, tcpBytes, transactionOf, protocolOf, lengthOf, tcpData, badProtocol, badLength, tcpRules, tcpOf, readTcp, toldTcpRead}
+use Rattle.modbus.specs.Envelope.{Message, contentOf, plainOf, bytesOf, saidBy, addressOf, functionOf}
+use Rattle.modbus.specs.Promise.{Fits, Carries, Finds, OneEnvelope, ReadsBack, WritesAgain}
+use Rattle.modbus.specs.Rtu.{rtu, crcOf, coveredOf, badCrc, rtuRules, foundRtu, readRtu, RtuAnswers, toldRtuRead}
+use Rattle.modbus.specs.Tcp.{tcp, tcpHead, tcpSaid, transactionOf, protocolOf, lengthOf, badProtocol, badLength, tcpRules, foundTcp, readTcp, TcpAnswers, toldTcpRead}
 use Rattle.modbus.specs.declared.Rtu.{Rtu}
-use Rattle.modbus.specs.declared.RtuRead.the-variants.{Rtu as FoundRtu, Refused as RtuRefused}
+use Rattle.modbus.specs.declared.RtuRead.the-variants.{Refused as RtuRefused}
 use Rattle.modbus.specs.declared.Tcp.{Tcp}
-use Rattle.modbus.specs.declared.TcpRead.the-variants.{Tcp as FoundTcp, Refused as TcpRefused}
+use Rattle.modbus.specs.declared.TcpRead.the-variants.{Refused as TcpRefused}
 use Rattle.modbus.proofs.Fields as fields
+use Rattle.modbus.proofs.Lawful.{Lawful}
+use Rattle.modbus.proofs.Promise.{same-message, one-envelope, reads-back, writes-again}
 use Rattle.modbus.proofs.Stores.{length-head}
 
--- ---- RTU, written
-module _ (a f : ℕ) (d : List ℕ) where
-  abbrev Sum : List ℕ
-  Sum = le 2 (crc (message a f d))
+-- ---- RTU
+written-crc : (m : Message) → Fits m → badCrc (plainOf rtu m) ≡ false
+written-crc m fit =
+    let content = contentOf m in
+    let S = plainOf rtu m in
+    let c = crc content in
+    let small : c < 65536 = crcFrom-lt 0xFFFF content (lit< tt) fit in
+    let at : length content ≡ length S - 2 = simp (length-append, length-le) (omega arith) in
+    let e : crcOf S ≡ c =
+    ap (λ (l : List ℕ). ofLe (field (content ++ l) (length S - 2) 2)) (sym (append-nil (le 2 c))) ∙ number-at content [] (length S - 2) 2 c at small in
+    ap not (eq-eqb (crcOf S) (crc (coveredOf S)) (e ∙ ap crc (sym (take-at content (le 2 c) (length S - 2) at))))
 
-  abbrev S : List ℕ
-  S = enveloped [] (message a f d) Sum
-
-  written-crc : Bytes (message a f d) → badCrc S ≡ false
-  written-crc hb =
-      let c = crc (message a f d) in
-      let small : c < 65536 = crcFrom-lt 0xFFFF (message a f d) (lit< tt) hb in
-      let at : length (message a f d) ≡ length S - 2 = simp (length-append, length-le) (omega arith) in
-      let e : crcOf S ≡ c =
-      ap (λ (l : List ℕ). ofLe (field (message a f d ++ l) (length S - 2) 2)) (sym (append-nil Sum))
-      ∙ number-at (message a f d) [] (length S - 2) 2 c at small in
-      ap not (eq-eqb (crcOf S) (crc (coveredOf S)) (e ∙ ap crc (sym (take-at (message a f d) Sum (length S - 2) at))))
-
-  rtu-read : Bytes (message a f d) → length d ≤ 252
-      → (readRtu (rtuBytes a f d) ≡ FoundRtu (record { address = a; function = f })) × (rtuData (rtuBytes a f d) ≡ d)
-  unfolding readRtu rtuBytes
-  rtu-read hb small =
-      let long = fields.written-long [] Sum 0 2 refl (length-le 2 (crc (message a f d))) a f d in
-      let fits = fields.written-fits [] Sum 0 2 refl (length-le 2 (crc (message a f d))) a f d small in
-      let none : NoneHolds (rtuRules S) = (long, (fits, (written-crc hb, tt))) in
-      (answered-none RtuRefused (FoundRtu (rtuOf S)) _ (first-none (rtuRules S) none), fields.written-data [] Sum 0 2 refl (length-le 2 (crc (message a f d))) a f d)
-
--- where the writer answers a length, the output's front of that length reads back as the same fields
-pub rtu-reads-back : (a f : ℕ) (d out : List ℕ) (r : Written) (out′ : List ℕ) (k : ℕ) → a < 256 → f < 256 → Bytes d
-    → WritesEnvelope d (rtuBytes a f d) out r out′ → r ≡ Length k
-    → (readRtu (take k out′) ≡ FoundRtu (record { address = a; function = f })) × (rtuData (take k out′) ≡ d)
-rtu-reads-back a f d out r out′ k ha hf hd w e =
-    let front = fields.written-front d (rtuBytes a f d) out r out′ w k e in
-    let back = rtu-read a f d (ha, (hf, hd)) (front .0) in
-    (ap readRtu (front .1) ∙ back .0, ap rtuData (front .1) ∙ back .1)
-
--- ---- RTU, read
-rtu-accepted : (s : List ℕ) (e : Rtu) → readRtu s ≡ FoundRtu e → NoneHolds (rtuRules s) × (rtuOf s ≡ e)
-unfolding readRtu
-rtu-accepted s e q =
-    let ok = accepted-as RtuRefused (FoundRtu (rtuOf s)) (λ r. toldRtuRead r .number) (λ n. refl) (first (rtuRules s)) (FoundRtu e) q refl in
-    let same : FoundRtu (rtuOf s) ≡ FoundRtu e = ok .1 in
-    (none-first (rtuRules s) tt (ok .0), (cc))
-
-rtu-again : (s : List ℕ) → Bytes s → NoneHolds (rtuRules s) → rtuBytes (addressOf 0 s) (functionOf 0 s) (rtuData s) ≡ s
-unfolding rtuBytes
-rtu-again s hb none =
-    let at = length s - 2 in
+rtu-tail : (s : List ℕ) → Bytes s → NoneHolds (rtuRules s) → le 2 (crc (contentOf (saidBy rtu s))) ≡ drop (length s - 2) s
+rtu-tail s hb none =
+    let least : 0 + 2 + 2 ≤ length s = ltb-false (length s) 4 (none .0) in
     let same : crcOf s ≡ crc (coveredOf s) = eqb-true (crcOf s) (crc (coveredOf s)) (not-false (eqb (crcOf s) (crc (coveredOf s))) (none .1 .1 .0)) in
-    let sum : le 2 (crc (fields.Read 0 2 s (none .0))) ≡ drop at s =
-    ap (λ (m : List ℕ). le 2 (crc m)) (fields.read-message 0 2 s (none .0))
+    ap (λ (c : List ℕ). le 2 (crc c)) (fields.read-message 0 2 s least)
     ∙ ap (le 2) (sym same)
-    ∙ number-again s at 2 hb
-    ∙ fields.read-tail 0 2 s (none .0) in
-    fields.read-again 0 2 s (none .0) [] (le 2 (crc (fields.Read 0 2 s (none .0)))) refl sum
+    ∙ number-again s (length s - 2) 2 hb
+    ∙ fields.read-tail 0 2 s least
 
--- accepted bytes, written again into an output with room, are the same bytes
-pub rtu-writes-again : (s : List ℕ) (e : Rtu) (out : List ℕ) (r : Written) (out′ : List ℕ) → Bytes s
-    → readRtu s ≡ FoundRtu e → length s ≤ length out
-    → WritesEnvelope (rtuData s) (rtuBytes (e .address) (e .function) (rtuData s)) out r out′
-    → (r ≡ Length (length s)) × (out′ ≡ over out s)
-rtu-writes-again s e out r out′ hb q room w =
-    let ok = rtu-accepted s e q in
-    let none = ok .0 in
-    let same : rtuBytes (e .address) (e .function) (rtuData s) ≡ s =
-    ap (λ (x : Rtu). rtuBytes (x .address) (x .function) (rtuData s)) (sym (ok .1)) ∙ rtu-again s hb none in
-    fields.written-whole (rtuData s) s out r out′
-    (subst (λ (bs : List ℕ). WritesEnvelope (rtuData s) bs out r out′) same w)
-    (fields.read-small 0 2 s (none .0) (none .1 .0)) room
+rtu-lawful : Lawful rtu rtuRules
+unfolding bytesOf
+rtu-lawful =
+    record {
+      head-length = λ c. refl;
+      tail-length = λ c. length-le 2 (crc c);
+      line-length = λ p. refl;
+      size-up = λ n k h. h;
+      size-down = λ n k h. h;
+      rules-numbered = λ s. tt;
+      limits = λ s none. (ltb-false (length s) 4 (none .0), ltb-false 256 (length s) (none .1 .0));
+      line-there = λ m fit. refl;
+      faultless = λ m fit least most. (le-ltb (length (plainOf rtu m)) 4 least, (le-ltb 256 (length (plainOf rtu m)) most, (written-crc m fit, tt)));
+      line-bytes = λ s hb. hb;
+      line-back = λ s hb none. refl;
+      tail-back = rtu-tail;
+    }
 
--- ---- TCP, written
-module _ (t u f : ℕ) (d : List ℕ) where
-  abbrev N : ℕ
-  N = length (message u f d)
+rtu-answers : (s : List ℕ) (m : Message) → Carries rtu rtuRules s m → RtuAnswers s m
+unfolding readRtu
+rtu-answers s m c =
+    (answered-none RtuRefused (foundRtu (saidBy rtu s)) _ (first-none (rtuRules s) (c .accepted)) ∙ ap foundRtu (c .says), ap (λ (x : Message). x .«data») (c .says))
 
+rtu-carries : (s : List ℕ) (m : Message) → Bytes s → RtuAnswers s m → Carries rtu rtuRules s m
+unfolding readRtu
+rtu-carries s m hb q =
+    let ok = accepted-as RtuRefused (foundRtu (saidBy rtu s)) (λ r. toldRtuRead r .number) (λ n. refl) (first (rtuRules s)) (foundRtu m) (q .0) refl in
+    let found : foundRtu (saidBy rtu s) ≡ foundRtu m = ok .1 in
+    let e : _≡_ {A = Rtu} (record { address = addressOf 0 s; function = functionOf 0 s }) (record { address = m .address; function = m .function }) = cc in
+    record {
+      accepted = none-first (rtuRules s) tt (ok .0);
+      says = same-message (saidBy rtu s) m (ap (λ (x : Rtu). x .address) e) (ap (λ (x : Rtu). x .function) e) (q .1);
+      begins = refl;
+    }
+
+pub rtu-finds : Finds rtu rtuRules RtuAnswers
+rtu-finds s m = (rtu-answers s m, rtu-carries s m)
+
+pub rtu-one-envelope : OneEnvelope rtu rtuRules
+rtu-one-envelope = one-envelope rtu rtuRules rtu-lawful
+
+pub rtu-reads-back : ReadsBack rtu RtuAnswers
+rtu-reads-back = reads-back rtu rtuRules rtu-lawful RtuAnswers rtu-answers
+
+pub rtu-writes-again : WritesAgain rtu RtuAnswers
+rtu-writes-again = writes-again rtu rtuRules rtu-lawful RtuAnswers rtu-carries
+
+-- ---- TCP: the fields of its head, in bytes that begin with it
+module _ (t n : ℕ) (rest : List ℕ) where
   abbrev P : List ℕ
-  P = enveloped (tcpHead t N) (message u f d) []
-
-  abbrev After : List ℕ
-  After = message u f d ++ []
+  P = tcpHead t n ++ rest
 
   transaction-field : field P 0 2 ≡ be 2 t
   unfolding tcpHead
   transaction-field =
-      ap (λ (l : List ℕ). field l 0 2) (append-assoc (be 2 t) (be 2 0 ++ be 2 N) After)
-      ∙ field-at [] (be 2 t) (be 2 0 ++ be 2 N ++ After) 0 2 refl (length-be 2 t)
+      ap (λ (l : List ℕ). field l 0 2) (append-assoc (be 2 t) (be 2 0 ++ be 2 n) rest)
+      ∙ field-at [] (be 2 t) (be 2 0 ++ be 2 n ++ rest) 0 2 refl (length-be 2 t)
 
   protocol-field : field P 2 2 ≡ be 2 0
   unfolding tcpHead
   protocol-field =
-      let e : P ≡ be 2 t ++ (be 2 0 ++ (be 2 N ++ After)) = simp append-assoc in
-      ap (λ (l : List ℕ). field l 2 2) e ∙ field-at (be 2 t) (be 2 0) (be 2 N ++ After) 2 2 (length-be 2 t) (length-be 2 0)
+      let e : P ≡ be 2 t ++ (be 2 0 ++ (be 2 n ++ rest)) = simp append-assoc in
+      ap (λ (l : List ℕ). field l 2 2) e ∙ field-at (be 2 t) (be 2 0) (be 2 n ++ rest) 2 2 (length-be 2 t) (length-be 2 0)
 
-  length-field-is : field P 4 2 ≡ be 2 N
+  length-field-is : field P 4 2 ≡ be 2 n
   unfolding tcpHead
   length-field-is =
-      let e : P ≡ be 2 t ++ be 2 0 ++ (be 2 N ++ After) = simp append-assoc in
+      let e : P ≡ be 2 t ++ be 2 0 ++ (be 2 n ++ rest) = simp append-assoc in
       let four : length (be 2 t ++ be 2 0) ≡ 4 = simp (length-append, length-be) in
-      ap (λ (l : List ℕ). field l 4 2) e ∙ field-at (be 2 t ++ be 2 0) (be 2 N) After 4 2 four (length-be 2 N)
-
-  written-length : length d ≤ 252 → badLength P ≡ false
-  written-length small =
-      let told : lengthOf P ≡ N = ap ofBe length-field-is ∙ ofBe-be 2 N (omega arith) in
-      let follow : length (drop 6 P) ≡ N = ap length (drop-at (tcpHead t N) After 6 (length-head t u f d N)) ∙ ap length (append-nil (message u f d)) in
-      ap not (eq-eqb (lengthOf P) (length (drop 6 P)) (told ∙ sym follow))
+      ap (λ (l : List ℕ). field l 4 2) e ∙ field-at (be 2 t ++ be 2 0) (be 2 n) rest 4 2 four (length-be 2 n)
 
   written-protocol : badProtocol P ≡ false
   written-protocol = ap not (eq-eqb (protocolOf P) 0 (ap ofBe protocol-field ∙ ofBe-be 2 0 (lit< tt)))
 
-  tcp-read : t < 65536 → length d ≤ 252
-      → (readTcp (tcpBytes t u f d) ≡ FoundTcp (record { transaction = t; unit = u; function = f })) × (tcpData (tcpBytes t u f d) ≡ d)
-  unfolding readTcp tcpBytes
-  tcp-read ht small =
-      let six = length-head t u f d N in
-      let long = fields.written-long (tcpHead t N) [] 6 0 six refl u f d in
-      let fits = fields.written-fits (tcpHead t N) [] 6 0 six refl u f d small in
-      let none : NoneHolds (tcpRules P) = (long, (fits, (written-protocol, (written-length small, tt)))) in
-      let et : transactionOf P ≡ t = ap ofBe transaction-field ∙ ofBe-be 2 t ht in
-      let eu = fields.written-address (tcpHead t N) [] 6 0 six refl u f d in
-      let ef = fields.written-function (tcpHead t N) [] 6 0 six refl u f d in
-      let same : FoundTcp (tcpOf P) ≡ FoundTcp (record { transaction = t; unit = u; function = f }) = cc (et, eu, ef) in
-      (answered-none TcpRefused (FoundTcp (tcpOf P)) _ (first-none (tcpRules P) none) ∙ same, fields.written-data (tcpHead t N) [] 6 0 six refl u f d)
-
-pub tcp-reads-back : (t u f : ℕ) (d out : List ℕ) (r : Written) (out′ : List ℕ) (k : ℕ) → t < 65536
-    → WritesEnvelope d (tcpBytes t u f d) out r out′ → r ≡ Length k
-    → (readTcp (take k out′) ≡ FoundTcp (record { transaction = t; unit = u; function = f })) × (tcpData (take k out′) ≡ d)
-tcp-reads-back t u f d out r out′ k ht w e =
-    let front = fields.written-front d (tcpBytes t u f d) out r out′ w k e in
-    let back = tcp-read t u f d ht (front .0) in
-    (ap readTcp (front .1) ∙ back .0, ap tcpData (front .1) ∙ back .1)
-
--- ---- TCP, read
-tcp-accepted : (s : List ℕ) (e : Tcp) → readTcp s ≡ FoundTcp e → NoneHolds (tcpRules s) × (tcpOf s ≡ e)
-unfolding readTcp
-tcp-accepted s e q =
-    let ok = accepted-as TcpRefused (FoundTcp (tcpOf s)) (λ r. toldTcpRead r .number) (λ n. refl) (first (tcpRules s)) (FoundTcp e) q refl in
-    let same : FoundTcp (tcpOf s) ≡ FoundTcp e = ok .1 in
-    (none-first (tcpRules s) tt (ok .0), (cc))
+  written-length : n < 65536 → n ≡ length rest → badLength P ≡ false
+  written-length small e =
+      let told : lengthOf P ≡ n = ap ofBe length-field-is ∙ ofBe-be 2 n small in
+      let follow : length (drop 6 P) ≡ length rest = ap length (drop-at (tcpHead t n) rest 6 (length-head t n)) in
+      ap not (eq-eqb (lengthOf P) (length (drop 6 P)) (told ∙ e ∙ sym follow))
 
 -- a number read from two bytes, written again
 again : (s : List ℕ) (at : ℕ) → Bytes s → be 2 (ofBe (field s at 2)) ≡ field s at 2
 again s at hb = ap (λ (w : ℕ). be w (ofBe (field s at 2))) (sym (length-field s at 2)) ∙ be-ofBe (field s at 2) (field-bytes s at 2 hb)
 
-tcp-again : (s : List ℕ) → Bytes s → NoneHolds (tcpRules s) → tcpBytes (transactionOf s) (addressOf 6 s) (functionOf 6 s) (tcpData s) ≡ s
-unfolding tcpBytes tcpHead
-tcp-again s hb none =
-    let m = fields.Read 6 0 s (none .0) in
-    let known = fields.read-length 6 0 s (none .0) in
+-- bytes that are accepted begin with the head of what they say
+tcp-head : (s : List ℕ) → Bytes s → NoneHolds (tcpRules s) → tcpHead (transactionOf s) (length (contentOf (tcpSaid s))) ≡ take 6 s
+unfolding tcpHead
+tcp-head s hb none =
+    let least : 6 + 2 + 0 ≤ length s = ltb-false (length s) 8 (none .0) in
+    let known = fields.read-length 6 0 s least in
     let zero-protocol : protocolOf s ≡ 0 = eqb-true (protocolOf s) 0 (not-false (eqb (protocolOf s) 0) (none .1 .1 .0)) in
     let told : lengthOf s ≡ length (drop 6 s) = eqb-true (lengthOf s) (length (drop 6 s)) (not-false (eqb (lengthOf s) (length (drop 6 s))) (none .1 .1 .1 .0)) in
-    let n : length m ≡ lengthOf s = omega (arith, length-drop 6 s) in
+    let n : length (contentOf (tcpSaid s)) ≡ lengthOf s = omega (arith, length-drop 6 s) in
     let six : 0 + 6 ≤ length s = omega arith in
-    let head : tcpHead (transactionOf s) (length m) ≡ take 6 s =
     ap₂ (λ (p l : ℕ). be 2 (transactionOf s) ++ (be 2 p ++ be 2 l)) (sym zero-protocol) n
     ∙ (cc (again s 0 hb, again s 2 hb, again s 4 hb, field-append s 0 2 4, field-append s 2 2 2))
-    ∙ field-take s 0 6 six in
-    let none-after : [] ≡ drop (length s - 0) s = sym (ap (λ (k : ℕ). drop k s) (sub-zero (length s)) ∙ drop-length s) in
-    fields.read-again 6 0 s (none .0) (tcpHead (transactionOf s) (length m)) [] head none-after
+    ∙ field-take s 0 6 six
 
-pub tcp-writes-again : (s : List ℕ) (e : Tcp) (out : List ℕ) (r : Written) (out′ : List ℕ) → Bytes s
-    → readTcp s ≡ FoundTcp e → length s ≤ length out
-    → WritesEnvelope (tcpData s) (tcpBytes (e .transaction) (e .unit) (e .function) (tcpData s)) out r out′
-    → (r ≡ Length (length s)) × (out′ ≡ over out s)
-tcp-writes-again s e out r out′ hb q room w =
-    let ok = tcp-accepted s e q in
-    let none = ok .0 in
-    let same : tcpBytes (e .transaction) (e .unit) (e .function) (tcpData s) ≡ s =
-    ap (λ (x : Tcp). tcpBytes (x .transaction) (x .unit) (x .function) (tcpData s)) (sym (ok .1)) ∙ tcp-again s hb none in
-    fields.written-whole (tcpData s) s out r out′
-    (subst (λ (bs : List ℕ). WritesEnvelope (tcpData s) bs out r out′) same w)
-    (fields.read-small 6 0 s (none .0) (none .1 .0)) room
+module _ (t : ℕ) where
+  tcp-faultless : (m : Message) → 8 ≤ length (plainOf (tcp t) m) → length (plainOf (tcp t) m) ≤ 260 → NoneHolds (tcpRules (plainOf (tcp t) m))
+  tcp-faultless m least most =
+      let c = contentOf m in
+      let S = plainOf (tcp t) m in
+      let long : length S ≡ 6 + length c = simp (length-append, length-head) (omega arith) in
+      let all : length c ≡ length (c ++ []) = sym (ap length (append-nil c)) in
+      (le-ltb (length S) 8 least, (le-ltb 260 (length S) most, (written-protocol t (length c) (c ++ []), (written-length t (length c) (c ++ []) (omega (arith, long, most)) all, tt))))
+
+  tcp-lawful : Lawful (tcp t) tcpRules
+  unfolding bytesOf
+  tcp-lawful =
+      record {
+        head-length = λ c. length-head t (length c);
+        tail-length = λ c. refl;
+        line-length = λ p. refl;
+        size-up = λ n k h. h;
+        size-down = λ n k h. h;
+        rules-numbered = λ s. tt;
+        limits = λ s none. (ltb-false (length s) 8 (none .0), ltb-false 260 (length s) (none .1 .0));
+        line-there = λ m fit. refl;
+        faultless = λ m fit least most. tcp-faultless m least most;
+        line-bytes = λ s hb. hb;
+        line-back = λ s hb none. refl;
+        tail-back = λ s hb none. sym (ap (λ (k : ℕ). drop k s) (sub-zero (length s)) ∙ drop-length s);
+      }
+
+  tcp-carries : (s : List ℕ) (m : Message) → Bytes s → TcpAnswers t s m → Carries (tcp t) tcpRules s m
+  unfolding readTcp
+  tcp-carries s m hb q =
+      let ok = accepted-as TcpRefused (foundTcp (transactionOf s) (tcpSaid s)) (λ r. toldTcpRead r .number) (λ n. refl) (first (tcpRules s)) (foundTcp t m) (q .0) refl in
+      let found : foundTcp (transactionOf s) (tcpSaid s) ≡ foundTcp t m = ok .1 in
+      let e : _≡_ {A = Tcp} (record { transaction = transactionOf s; unit = addressOf 6 s; function = functionOf 6 s }) (record { transaction = t; unit = m .address; function = m .function }) = cc in
+      let none = none-first (tcpRules s) tt (ok .0) in
+      let said = same-message (tcpSaid s) m (ap (λ (x : Tcp). x .unit) e) (ap (λ (x : Tcp). x .function) e) (q .1) in
+      record {
+        accepted = none;
+        says = said;
+        begins = ap₂ (λ (x : ℕ) (y : Message). tcpHead x (length (contentOf y))) (sym (ap (λ (x : Tcp). x .transaction) e)) (sym said) ∙ tcp-head s hb none;
+      }
+
+  -- the transaction of bytes that begin with the envelope's head
+  stands : t < 65536 → (s : List ℕ) (n : ℕ) → tcpHead t n ≡ take 6 s → transactionOf s ≡ t
+  stands ht s n e =
+      ap (λ (l : List ℕ). ofBe (field l 0 2)) (sym (take-append-drop 6 s) ∙ ap (λ (l : List ℕ). l ++ drop 6 s) (sym e))
+      ∙ ap ofBe (transaction-field t n (drop 6 s))
+      ∙ ofBe-be 2 t ht
+
+  tcp-answers : t < 65536 → (s : List ℕ) (m : Message) → Carries (tcp t) tcpRules s m → TcpAnswers t s m
+  unfolding readTcp
+  tcp-answers ht s m c = (
+    answered-none TcpRefused (foundTcp (transactionOf s) (tcpSaid s)) _ (first-none (tcpRules s) (c .accepted))
+        ∙ ap₂ foundTcp (stands ht s (length (contentOf m)) (c .begins)) (c .says),
+    ap (λ (x : Message). x .«data») (c .says),
+  )
+
+  pub tcp-one-envelope : OneEnvelope (tcp t) tcpRules
+  tcp-one-envelope = one-envelope (tcp t) tcpRules tcp-lawful
+
+  pub tcp-finds : t < 65536 → Finds (tcp t) tcpRules (TcpAnswers t)
+  tcp-finds ht s m = (tcp-answers ht s m, tcp-carries s m)
+
+  pub tcp-reads-back : t < 65536 → ReadsBack (tcp t) (TcpAnswers t)
+  tcp-reads-back ht = reads-back (tcp t) tcpRules tcp-lawful (TcpAnswers t) (tcp-answers ht)
+
+  pub tcp-writes-again : WritesAgain (tcp t) (TcpAnswers t)
+  tcp-writes-again = writes-again (tcp t) tcpRules tcp-lawful (TcpAnswers t) tcp-carries

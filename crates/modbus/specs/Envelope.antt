@@ -1,5 +1,5 @@
--- What the envelopes share: an address, a function and data of 0 to 252 bytes, between a head and a tail. Of bytes received, `before` counts
--- the bytes before the address, and `after` those after the data.
+-- A message, and an envelope around it: how a message stands on the line, and what bytes on the line say. The three envelopes are `rtu`, `tcp`
+-- of each transaction and, in the room `modbus_ascii`, `ascii`; each has its rules of reading beside it. What they promise is in Promise, once.
 -- Assumes nothing.
 use Prim.Native.Nat.{ℕ, _+_, _-_}
 use mathlib.Core.Bool.{Bool}
@@ -10,31 +10,41 @@ use Rattle.wire.specs.Refusal.{Rule, _when_, first}
 use Rattle.wire.specs.Writes.{Writes}
 use Rattle.wire.specs.declared.Written.{Written}
 
--- address, function, data
-abbrev pub message : ℕ → ℕ → List ℕ → List ℕ
-message address function «data» = address ∷ function ∷ «data»
+-- the address is TCP's unit
+pub record Message : Type 0 where
+  pub address : ℕ
+  pub function : ℕ
+  pub «data» : List ℕ
+
+abbrev pub message : ℕ → ℕ → List ℕ → Message
+message address function «data» = record { address = address; function = function; «data» = «data» }
+
+-- its bytes
+abbrev pub contentOf : Message → List ℕ
+contentOf m = m .address ∷ m .function ∷ m .«data»
+
+pub record Envelope : Type 0 where
+  -- the bytes before a message's own and those after them: how many, and which, given the message's
+  pub before : ℕ
+  pub after : ℕ
+  pub head : List ℕ → List ℕ
+  pub tail : List ℕ → List ℕ
+  -- how all of them stand on the line, how many bytes n of them are there, and which they are, given those on the line
+  pub onLine : List ℕ → List ℕ
+  pub size : ℕ → ℕ
+  pub ofLine : List ℕ → List ℕ
+
+-- ---- writing
 
 -- head, message, tail
 abbrev pub enveloped : List ℕ → List ℕ → List ℕ → List ℕ
 enveloped head content tail = head ++ (content ++ tail)
 
--- the fields of the bytes received
-abbrev pub addressOf : ℕ → List ℕ → ℕ
-addressOf before s = getD s before 0
+abbrev pub plainOf : Envelope → Message → List ℕ
+plainOf e m = enveloped (e .head (contentOf m)) (contentOf m) (e .tail (contentOf m))
 
-abbrev pub functionOf : ℕ → List ℕ → ℕ
-functionOf before s = getD s (before + 1) 0
-
-abbrev pub dataOf : ℕ → ℕ → List ℕ → List ℕ
-dataOf before after s = take (length s - (before + 2 + after)) (drop (before + 2) s)
-
--- fewer bytes than an envelope with no data has
-abbrev pub tooShort : ℕ → ℕ → List ℕ → Bool
-tooShort before after s = ltb (length s) (before + 2 + after)
-
--- more bytes than an envelope with 252 bytes of data has
-abbrev pub tooLong : ℕ → ℕ → List ℕ → Bool
-tooLong before after s = ltb (before + 2 + 252 + after) (length s)
+unfoldable pub bytesOf : Envelope → Message → List ℕ
+bytesOf e m = e .onLine (plainOf e m)
 
 -- 17 data above 252
 abbrev pub tooMuch : List ℕ → Bool
@@ -48,6 +58,32 @@ noRoom needed out = ltb (length out) needed
 abbrev pub writeRules : List ℕ → ℕ → List ℕ → List Rule
 writeRules «data» needed out = 17 when tooMuch «data» ∷ 16 when noRoom needed out ∷ []
 
--- what a writer owes that puts data in an envelope, which is then `bytes`: the answer r and the output out′
-abbrev pub WritesEnvelope : List ℕ → List ℕ → List ℕ → Written → List ℕ → Type 0
-WritesEnvelope «data» bytes out r out′ = Writes (first (writeRules «data» (length bytes) out)) bytes out r out′
+-- what a writer of a message owes: the answer r and the output out′
+abbrev pub WritesEnvelope : Envelope → Message → List ℕ → Written → List ℕ → Type 0
+WritesEnvelope e m out r out′ = Writes (first (writeRules (m .«data») (length (bytesOf e m)) out)) (bytesOf e m) out r out′
+
+-- ---- reading
+
+-- the fields of plain bytes
+abbrev pub addressOf : ℕ → List ℕ → ℕ
+addressOf before s = getD s before 0
+
+abbrev pub functionOf : ℕ → List ℕ → ℕ
+functionOf before s = getD s (before + 1) 0
+
+abbrev pub dataOf : ℕ → ℕ → List ℕ → List ℕ
+dataOf before after s = take (length s - (before + 2 + after)) (drop (before + 2) s)
+
+-- the message that bytes on the line say
+abbrev pub saidBy : Envelope → List ℕ → Message
+saidBy e s = message (addressOf (e .before) (e .ofLine s)) (functionOf (e .before) (e .ofLine s)) (dataOf (e .before) (e .after) (e .ofLine s))
+
+-- how many bytes on the line a message with n bytes of data is
+abbrev pub lineLength : Envelope → ℕ → ℕ
+lineLength e n = e .size (e .before + 2 + n + e .after)
+
+abbrev pub tooShort : ℕ → List ℕ → Bool
+tooShort least s = ltb (length s) least
+
+abbrev pub tooLong : ℕ → List ℕ → Bool
+tooLong most s = ltb most (length s)

@@ -1,4 +1,5 @@
 pub mod Envelope
+pub mod Promise
 pub mod Rtu
 pub mod Tcp
 pub mod Printed

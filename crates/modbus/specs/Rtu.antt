@@ -1,6 +1,7 @@
 -- The RTU envelope. CRC is the last two bytes received, and covers all before it.
 -- Assumes nothing.
 use Prim.Native.Nat.{ℕ, _-_}
+use mathlib.Core.Path.{_≡_}
 use mathlib.Core.Bool.{Bool, not}
 use mathlib.Core.List.{List, [], _∷_}
 use lib.Dec.{eqb}
@@ -10,14 +11,9 @@ use Rattle.wire.specs.Answer.{answered}
 use Rattle.wire.specs.Numbers.{le, ofLe, field}
 use Rattle.wire.specs.Refusal.{Rule, _when_, first}
 use Rattle.wire.specs.Told.{Told, accepted, refused}
-use Rattle.modbus.specs.Envelope.{message, enveloped, addressOf, functionOf, dataOf, tooShort, tooLong}
-use Rattle.modbus.specs.declared.Rtu.{Rtu}
+use Rattle.modbus.specs.Envelope.{Message, Envelope, saidBy, tooShort, tooLong}
 use Rattle.modbus.specs.declared.RtuRead.{RtuRead}
 use Rattle.modbus.specs.declared.RtuRead.the-variants.{Rtu as Found, Refused}
-
--- "RTU: address, function, data 0 to 252, CRC." "It is sent low byte first." "The same rule serves Pulsar-M and Modbus RTU."
-unfoldable pub rtuBytes : ℕ → ℕ → List ℕ → List ℕ
-rtuBytes address function «data» = enveloped [] (message address function «data») (le 2 (crc (message address function «data»)))
 
 -- the last two bytes received, and what they cover
 abbrev pub crcOf : List ℕ → ℕ
@@ -26,16 +22,13 @@ crcOf s = ofLe (field s (length s - 2) 2)
 abbrev pub coveredOf : List ℕ → List ℕ
 coveredOf s = take (length s - 2) s
 
-abbrev pub rtuData : List ℕ → List ℕ
-rtuData s = dataOf 0 2 s
-
 -- 40 RTU under 4 bytes
 abbrev pub rtuShort : List ℕ → Bool
-rtuShort s = tooShort 0 2 s
+rtuShort s = tooShort 4 s
 
 -- 41 RTU above 256
 abbrev pub rtuLong : List ℕ → Bool
-rtuLong s = tooLong 0 2 s
+rtuLong s = tooLong 256 s
 
 -- 44 RTU CRC differs
 abbrev pub badCrc : List ℕ → Bool
@@ -45,12 +38,32 @@ badCrc s = not (eqb (crcOf s) (crc (coveredOf s)))
 abbrev pub rtuRules : List ℕ → List Rule
 rtuRules s = 40 when rtuShort s ∷ 41 when rtuLong s ∷ 44 when badCrc s ∷ []
 
--- the envelope that the bytes hold
-abbrev pub rtuOf : List ℕ → Rtu
-rtuOf s = record { address = addressOf 0 s; function = functionOf 0 s }
+-- "RTU: address, function, data 0 to 252, CRC." "It is sent low byte first." "The same rule serves Pulsar-M and Modbus RTU."
+abbrev pub rtu : Envelope
+rtu =
+    record {
+      before = 0;
+      after = 2;
+      head = λ c. [];
+      tail = λ c. le 2 (crc c);
+      onLine = λ p. p;
+      size = λ n. n;
+      ofLine = λ s. s;
+    }
+
+abbrev pub rtuData : List ℕ → List ℕ
+rtuData s = saidBy rtu s .«data»
+
+-- the answer to a message that is read, and to any bytes
+abbrev pub foundRtu : Message → RtuRead
+foundRtu m = Found (record { address = m .address; function = m .function })
 
 unfoldable pub readRtu : List ℕ → RtuRead
-readRtu s = answered Refused (Found (rtuOf s)) (first (rtuRules s))
+readRtu s = answered Refused (foundRtu (saidBy rtu s)) (first (rtuRules s))
+
+-- it reads m: its answer, and the data that is handed back
+abbrev pub RtuAnswers : List ℕ → Message → Type 0
+RtuAnswers s m = (readRtu s ≡ foundRtu m) × (rtuData s ≡ m .«data»)
 
 abbrev pub toldRtuRead : RtuRead → Told
 toldRtuRead (Found e) = accepted (e .address ∷ e .function ∷ [])

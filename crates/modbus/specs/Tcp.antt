@@ -1,6 +1,7 @@
 -- The TCP envelope. The unit stands in the address's place.
 -- Assumes nothing.
 use Prim.Native.Nat.{ℕ}
+use mathlib.Core.Path.{_≡_}
 use mathlib.Core.Bool.{Bool, not}
 use mathlib.Core.List.{List, [], _∷_, _++_}
 use lib.Dec.{eqb}
@@ -9,8 +10,7 @@ use Rattle.wire.specs.Answer.{answered}
 use Rattle.wire.specs.Numbers.{be, ofBe, field}
 use Rattle.wire.specs.Refusal.{Rule, _when_, first}
 use Rattle.wire.specs.Told.{Told, accepted, refused}
-use Rattle.modbus.specs.Envelope.{message, enveloped, addressOf, functionOf, dataOf, tooShort, tooLong}
-use Rattle.modbus.specs.declared.Tcp.{Tcp}
+use Rattle.modbus.specs.Envelope.{Message, Envelope, saidBy, tooShort, tooLong}
 use Rattle.modbus.specs.declared.TcpRead.{TcpRead}
 use Rattle.modbus.specs.declared.TcpRead.the-variants.{Tcp as Found, Refused}
 
@@ -18,10 +18,6 @@ use Rattle.modbus.specs.declared.TcpRead.the-variants.{Tcp as Found, Ref
 -- after itself", which is n bytes
 unfoldable pub tcpHead : ℕ → ℕ → List ℕ
 tcpHead transaction n = be 2 transaction ++ (be 2 0 ++ be 2 n)
-
-unfoldable pub tcpBytes : ℕ → ℕ → ℕ → List ℕ → List ℕ
-tcpBytes transaction unit function «data» =
-    enveloped (tcpHead transaction (length (message unit function «data»))) (message unit function «data») []
 
 -- the fields of the bytes received: "transaction 2, protocol 2 (zero), length 2"
 abbrev pub transactionOf : List ℕ → ℕ
@@ -33,16 +29,13 @@ protocolOf s = ofBe (field s 2 2)
 abbrev pub lengthOf : List ℕ → ℕ
 lengthOf s = ofBe (field s 4 2)
 
-abbrev pub tcpData : List ℕ → List ℕ
-tcpData s = dataOf 6 0 s
-
 -- 40 TCP under 8
 abbrev pub tcpShort : List ℕ → Bool
-tcpShort s = tooShort 6 0 s
+tcpShort s = tooShort 8 s
 
 -- 41 TCP above 260
 abbrev pub tcpLong : List ℕ → Bool
-tcpLong s = tooLong 6 0 s
+tcpLong s = tooLong 260 s
 
 -- 42 protocol not 0
 abbrev pub badProtocol : List ℕ → Bool
@@ -61,12 +54,36 @@ tcpRules s =
     ∷ 43 when badLength s
     ∷ []
 
--- the envelope that the bytes hold
-abbrev pub tcpOf : List ℕ → Tcp
-tcpOf s = record { transaction = transactionOf s; unit = addressOf 6 s; function = functionOf 6 s }
+-- the envelope with a transaction
+abbrev pub tcp : ℕ → Envelope
+tcp transaction =
+    record {
+      before = 6;
+      after = 0;
+      head = λ c. tcpHead transaction (length c);
+      tail = λ c. [];
+      onLine = λ p. p;
+      size = λ n. n;
+      ofLine = λ s. s;
+    }
+
+-- the message in bytes received, whose transaction is the one that stands there
+abbrev pub tcpSaid : List ℕ → Message
+tcpSaid s = saidBy (tcp (transactionOf s)) s
+
+abbrev pub tcpData : List ℕ → List ℕ
+tcpData s = tcpSaid s .«data»
+
+-- the answer to a message that is read, and to any bytes
+abbrev pub foundTcp : ℕ → Message → TcpRead
+foundTcp transaction m = Found (record { transaction = transaction; unit = m .address; function = m .function })
 
 unfoldable pub readTcp : List ℕ → TcpRead
-readTcp s = answered Refused (Found (tcpOf s)) (first (tcpRules s))
+readTcp s = answered Refused (foundTcp (transactionOf s) (tcpSaid s)) (first (tcpRules s))
+
+-- it reads m with a transaction: its answer, and the data that is handed back
+abbrev pub TcpAnswers : ℕ → List ℕ → Message → Type 0
+TcpAnswers transaction s m = (readTcp s ≡ foundTcp transaction m) × (tcpData s ≡ m .«data»)
 
 abbrev pub toldTcpRead : TcpRead → Told
 toldTcpRead (Found e) = accepted (e .transaction ∷ e .unit ∷ e .function ∷ [])

@@ -1,20 +1,16 @@
-// What the envelopes share: an address, a function and data, and their limits.
+// What the envelopes share: their limits, and the order of writing.
 ghost use mathlib.Core.Path.{_≡_};
-ghost use Prim.Native.Nat.{_+_, _≤_};
-ghost use lib.Dec.{ltb};
-ghost use lib.ListN.{length};
-ghost use lib.Seq.{sets};
 ghost use Rattle.wire.specs.Refusal.{first};
-ghost use Rattle.modbus.specs.Envelope.{message, tooMuch, noRoom, writeRules};
+ghost use Rattle.modbus.specs.Envelope.{tooShort, tooLong, tooMuch, noRoom, writeRules};
 
 pub fn too_short(bytes: &[u8], least: usize) -> bool
-    ensures { λ r. ⌜ r ≡ ltb (length (now (bytes .entry))) least ⌝ }
+    ensures { λ r. ⌜ r ≡ tooShort least (now (bytes .entry)) ⌝ }
 {
     bytes.len() < least
 }
 
 pub fn too_long(bytes: &[u8], most: usize) -> bool
-    ensures { λ r. ⌜ r ≡ ltb most (length (now (bytes .entry))) ⌝ }
+    ensures { λ r. ⌜ r ≡ tooLong most (now (bytes .entry)) ⌝ }
 {
     most < bytes.len()
 }
@@ -25,7 +21,7 @@ fn too_much(data: &[u8]) -> bool
     252 < data.len()
 }
 
-fn no_room(needed: usize, out: &[u8]) -> bool
+pub fn no_room(needed: usize, out: &[u8]) -> bool
     ensures { λ r. ⌜ r ≡ noRoom needed (now (out .entry)) ⌝ }
 {
     out.len() < needed
@@ -42,14 +38,4 @@ pub fn write_fault(data: &[u8], needed: usize, out: &[u8]) -> u8
         return 16;
     }
     0
-}
-
-// From a place on, in an output that has room.
-pub fn put_message(address: u8, function: u8, data: &[u8], out: &mut [u8], at: usize)
-    requires { ⌜ at + 2 ≤ length (now out) ⌝ }
-    ensures { λ _. ⌜ now (out .exit) ≡ sets (now (out .entry)) at (message address function (now («data» .entry))) ⌝ }
-{
-    wire::put(out, at, address);
-    wire::put(out, at + 1, function);
-    wire::put_all(out, at + 2, data);
 }

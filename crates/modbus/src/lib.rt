@@ -1,14 +1,15 @@
-// The Modbus envelopes RTU and TCP, read and written. Nothing may follow an envelope. What each answers is in specs/.
-mod envelope;
+// The Modbus envelopes RTU and TCP, read and written, and what they share with ASCII. Nothing may follow an envelope. What each answers is in specs/.
+mod content;
+pub mod envelope;
 
 ghost use mathlib.Core.Path.{_≡_};
 ghost use Prim.Native.Nat.{_+_, _≤_};
 ghost use lib.ListN.{length};
 ghost use lib.Seq.{sets};
 ghost use Rattle.wire.specs.Refusal.{first};
-ghost use Rattle.modbus.specs.Envelope.{WritesEnvelope};
-ghost use Rattle.modbus.specs.Rtu.{rtuBytes, rtuData, rtuRules, readRtu, badCrc};
-ghost use Rattle.modbus.specs.Tcp.{tcpBytes, tcpData, tcpRules, readTcp, badProtocol, badLength};
+ghost use Rattle.modbus.specs.Envelope.{message, bytesOf, WritesEnvelope};
+ghost use Rattle.modbus.specs.Rtu.{rtu, rtuData, rtuRules, readRtu, badCrc};
+ghost use Rattle.modbus.specs.Tcp.{tcp, tcpData, tcpRules, readTcp, badProtocol, badLength};
 
 pub struct Rtu {
     pub address: u8,
@@ -77,9 +78,9 @@ pub fn rtu_data(bytes: &[u8]) -> &[u8]
 
 fn put_rtu(address: u8, function: u8, data: &[u8], out: &mut [u8])
     requires { ⌜ length (now «data») + 4 ≤ length (now out) ⌝ }
-    ensures { λ _. ⌜ now (out .exit) ≡ sets (now (out .entry)) 0 (rtuBytes address function (now («data» .entry))) ⌝ }
+    ensures { λ _. ⌜ now (out .exit) ≡ sets (now (out .entry)) 0 (bytesOf rtu (message address function (now («data» .entry)))) ⌝ }
 {
-    envelope::put_message(address, function, data, out, 0);
+    content::put_content(address, function, data, out, 0);
     let n = data.len() + 2;
     let crc = checksum::checksum(&out[..n]);
     wire::put_le16(out, n, crc);
@@ -87,7 +88,7 @@ fn put_rtu(address: u8, function: u8, data: &[u8], out: &mut [u8])
 
 // The envelope, over the front of out.
 pub fn write_rtu(address: u8, function: u8, data: &[u8], out: &mut [u8]) -> wire::Written
-    ensures { λ r. ⌜ WritesEnvelope (now («data» .entry)) (rtuBytes address function (now («data» .entry))) (now (out .entry)) r (now (out .exit)) ⌝ }
+    ensures { λ r. ⌜ WritesEnvelope rtu (message address function (now («data» .entry))) (now (out .entry)) r (now (out .exit)) ⌝ }
 {
     let n = data.len() + 4;
     let no = envelope::write_fault(data, n, out);
@@ -152,12 +153,12 @@ pub fn tcp_data(bytes: &[u8]) -> &[u8]
 
 fn put_tcp(transaction: u16, unit: u8, function: u8, data: &[u8], out: &mut [u8])
     requires { ⌜ (length (now «data») ≤ 252) × (length (now «data») + 8 ≤ length (now out)) ⌝ }
-    ensures { λ _. ⌜ now (out .exit) ≡ sets (now (out .entry)) 0 (tcpBytes transaction unit function (now («data» .entry))) ⌝ }
+    ensures { λ _. ⌜ now (out .exit) ≡ sets (now (out .entry)) 0 (bytesOf (tcp transaction) (message unit function (now («data» .entry)))) ⌝ }
 {
     wire::put_be16(out, 0, transaction);
     wire::put_be16(out, 2, 0);
     wire::put_be16(out, 4, (data.len() + 2) as u16);
-    envelope::put_message(unit, function, data, out, 6);
+    content::put_content(unit, function, data, out, 6);
 }
 
 // The envelope, over the front of out.
@@ -168,7 +169,7 @@ pub fn write_tcp(
     data: &[u8],
     out: &mut [u8],
 ) -> wire::Written
-    ensures { λ r. ⌜ WritesEnvelope (now («data» .entry)) (tcpBytes transaction unit function (now («data» .entry))) (now (out .entry)) r (now (out .exit)) ⌝ }
+    ensures { λ r. ⌜ WritesEnvelope (tcp transaction) (message unit function (now («data» .entry))) (now (out .entry)) r (now (out .exit)) ⌝ }
 {
     let n = data.len() + 8;
     let no = envelope::write_fault(data, n, out);

@@ -1,7 +1,8 @@
-// Acts 30 to 33: Modbus envelopes.
+// Acts 30 to 35: Modbus envelopes.
 use crate::say;
 use modbus::RtuRead;
 use modbus::TcpRead;
+use modbus_ascii::AsciiRead;
 use wire::byte_at;
 use wire::le16_at;
 
@@ -25,6 +26,17 @@ fn tcp(bytes: &[u8]) -> bool {
     }
 }
 
+// The whole of the output, refused or not.
+fn ascii(chars: &[u8], out: &mut [u8]) -> bool {
+    match modbus_ascii::read_ascii(chars, out) {
+        AsciiRead::Ascii(a) => {
+            let words = [0, a.address as u64, a.function as u64, a.length as u64];
+            say::line(&words, out)
+        }
+        AsciiRead::Refused(n) => say::line(&[n as u64], out),
+    }
+}
+
 pub fn answer(act: u8, numbers: &[u8], bytes: &[u8], out: &mut [u8]) -> bool {
     match act {
         30 => rtu(bytes),
@@ -33,7 +45,7 @@ pub fn answer(act: u8, numbers: &[u8], bytes: &[u8], out: &mut [u8]) -> bool {
             say::written(w, out)
         }
         32 => tcp(bytes),
-        _ => {
+        33 => {
             let transaction = le16_at(numbers, 0);
             let w = modbus::write_tcp(
                 transaction,
@@ -42,6 +54,11 @@ pub fn answer(act: u8, numbers: &[u8], bytes: &[u8], out: &mut [u8]) -> bool {
                 bytes,
                 out,
             );
+            say::written(w, out)
+        }
+        34 => ascii(bytes, out),
+        _ => {
+            let w = modbus_ascii::write_ascii(byte_at(numbers, 0), byte_at(numbers, 8), bytes, out);
             say::written(w, out)
         }
     }

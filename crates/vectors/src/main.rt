@@ -35,7 +35,7 @@ fn pulsar(act: u8, numbers: &[u8], bytes: &[u8], out: &mut [u8]) -> bool {
 
 fn controller(act: u8, numbers: &[u8], bytes: &[u8], out: &mut [u8]) -> bool {
     match act {
-        30..=33 => envelope::answer(act, numbers, bytes, out),
+        30..=35 => envelope::answer(act, numbers, bytes, out),
         40..=42 => files::answer(act, numbers, bytes, out),
         43 => receiver::answer(numbers, bytes, out),
         _ => say::unknown(act),
@@ -45,7 +45,7 @@ fn controller(act: u8, numbers: &[u8], bytes: &[u8], out: &mut [u8]) -> bool {
 // Answers a case: an act, its numbers of eight bytes each, and its byte strings.
 fn answer(act: u8, numbers: &[u8], bytes: &[u8], out: &mut [u8]) -> bool {
     match act {
-        1..=3 | 9 => ground::answer(act, numbers, bytes, out),
+        1..=3 | 9 | 61..=63 => ground::answer(act, numbers, bytes, out),
         4..=8 => readings::answer(act, numbers, bytes),
         10..=23 => pulsar(act, numbers, bytes, out),
         30..=43 => controller(act, numbers, bytes, out),

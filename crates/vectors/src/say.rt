@@ -1,6 +1,7 @@
 // An answer's line: numbers in decimal, then a byte string in hexadecimal; or what is wrong with the case. The answer is false where a write fails.
 use libc::STDOUT_FILENO;
 use wire::Written;
+use wire::digit;
 
 // The length of a line that did not fit.
 const TOO_LONG: usize = usize::MAX;
@@ -30,10 +31,9 @@ fn decimal(line: &mut [u8], words: &[u64]) -> usize {
     n
 }
 
-// The upper-case hexadecimal digit of the low half of a byte.
-fn digit(b: u8) -> u8 {
-    let d = b % 16;
-    if d < 10 { b'0' + d } else { b'A' - 10 + d }
+// The two digits of a byte.
+fn digits_of(b: u8) -> [u8; 2] {
+    [digit((b / 16) as u64), digit((b % 16) as u64)]
 }
 
 // A byte string, - where it is empty.
@@ -44,7 +44,7 @@ fn hexadecimal(line: &mut [u8], at: usize, s: &[u8]) -> usize {
     let mut n = at;
     let mut i = 0;
     while i < s.len() {
-        let pair = [digit(s[i] / 16), digit(s[i])];
+        let pair = digits_of(s[i]);
         n = text(line, n, &pair);
         i += 1;
     }

@@ -7,4 +7,5 @@ pub mod Writing
 pub mod Refusal
 pub mod Answer
 pub mod Writes
+pub mod Digits
 pub mod Unique

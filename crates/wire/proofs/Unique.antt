@@ -19,6 +19,8 @@ use Rattle.wire.proofs.put_le16.Reads as put-le16
 use Rattle.wire.proofs.put_le32.Reads as put-le32
 use Rattle.wire.proofs.put_be16.Reads as put-be16
 use Rattle.wire.proofs.put_bcd32.Reads as put-bcd32
+use Rattle.wire.proofs.digit.Reads as digit
+use Rattle.wire.proofs.digit_of.Reads as digit-of
 
 pub minus-unique : Unique minus.Post (λ κs r s. r)
 minus-unique κs a r r′ s s′ e e′ = e ∙ sym e′
@@ -67,3 +69,9 @@ put-be16-unique κs a r r′ s s′ e e′ = e ∙ sym e′
 
 pub put-bcd32-unique : Unique put-bcd32.Post (λ κs r s. now (s .0))
 put-bcd32-unique κs a r r′ s s′ e e′ = e ∙ sym e′
+
+pub digit-unique : Unique digit.Post (λ κs r s. r)
+digit-unique κs a r r′ s s′ e e′ = e ∙ sym e′
+
+pub digit-of-unique : Unique digit-of.Post (λ κs r s. r)
+digit-of-unique κs a r r′ s s′ e e′ = e ∙ sym e′

@@ -4,6 +4,7 @@ ghost use mathlib.Core.Path.{_≡_};
 ghost use Prim.Native.Nat.{_-_, _%_, _^_, _≤_, _<_};
 ghost use lib.ListN.{getD, set, take, drop};
 ghost use lib.Seq.{sets};
+ghost use Rattle.wire.specs.Digits.{digit, digitOf};
 ghost use Rattle.wire.specs.Numbers.{le, ofLe, be, ofBe, bcd, ofBcd, isBcd, field, ofBcdByte, bcdByte, isBcdByte};
 
 // What a writer answers: how many bytes it wrote over the front of its output, or the paper's number, and then it wrote none.
@@ -173,4 +174,30 @@ pub fn put_bcd32(out: &mut [u8], v: u32)
         to_bcd(v),
     ];
     put_all(out, 0, &bytes);
+}
+
+// The upper-case hexadecimal digit of d, and 0 where d is above 15.
+pub fn digit(d: u64) -> u8
+    ensures { λ r. ⌜ r ≡ digit d ⌝ }
+{
+    byte_at(b"0123456789ABCDEF", d as usize)
+}
+
+// The number whose digit is c, and 16 where c is none. Lower case is none.
+pub fn digit_of(c: u8) -> u8
+    ensures { λ r. ⌜ r ≡ digitOf c ⌝ }
+{
+    if c < 48 {
+        return 16;
+    }
+    if c < 58 {
+        return c - 48;
+    }
+    if c < 65 {
+        return 16;
+    }
+    if c < 71 {
+        return c - 55;
+    }
+    16
 }

@@ -1,7 +1,10 @@
-"""Cases for the checksum, dates and readings (acts 1 to 9)."""
+"""Cases for the checksums, dates, readings and digits (acts 1 to 9, 61 to 63)."""
+from itertools import product
+
 from cases.making import flipped, pattern
 from crc import crc16, low_byte_first
 from dates import RANGES, days
+from lrc import lrc
 from modbus import rtu_bytes
 from pulsar_frame import frame_bytes
 
@@ -53,6 +56,32 @@ def stretches(rng):
             yield [0xFFFF], [whole[:cut], whole[cut:]], 0
             broken = flipped(whole, rng.randrange(8 * len(whole)))
             yield [0xFFFF], [broken[:cut], broken[cut:]], 0
+
+
+def sum_byte(rng):
+    edges = (0, 1, 127, 128, 254, 255)
+    for before, byte in product(edges, edges):
+        yield [before, byte], [], 0
+    for _ in range(20):
+        yield [rng.randrange(256), rng.randrange(256)], [], 0
+
+
+def sum_stretches(rng):
+    """A message in two buffers: cut at every place, at its ends too; and long ones. With its LRC an ASCII line's message has the sum 0."""
+    message = bytes([0x11, 0x03, 0x00, 0x6B, 0x00, 0x03])
+    for start in (0, 1, 255):
+        for whole in (message, message + bytes([lrc(message)]), rng.randbytes(5)):
+            for cut in range(len(whole) + 1):
+                yield [start], [whole[:cut], whole[cut:]], 0
+    for start in (0, 255):
+        for length in (254, 255, 256, 257, 4096):
+            yield [start], [b"\xFF" * length, b"\x01"], 0
+            yield [start], [b"\x80", pattern(length)], 0
+
+
+def of_a_byte(rng):
+    for byte in range(256):
+        yield [byte], [], 0
 
 
 GOOD_DATE = bytes([23, 2, 28, 12, 30, 30])
@@ -195,4 +224,5 @@ def is_same(rng):
             yield [kind, bits, kind, rng.choice(values)], [], 0
 
 
-CASES = {1: checksum_from, 2: checksum, 3: dates, 4: value_at, 5: read_value, 6: first_absent, 7: channel_of, 8: is_same, 9: stretches}
+CASES = {1: checksum_from, 2: checksum, 3: dates, 4: value_at, 5: read_value, 6: first_absent, 7: channel_of, 8: is_same, 9: stretches,
+         61: sum_byte, 62: sum_stretches, 63: of_a_byte}

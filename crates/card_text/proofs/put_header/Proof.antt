@@ -1,6 +1,6 @@
 -- `card_text::put_header` meets its contract.
 -- Assumes nothing.
-use Rattle.card_text.specs.Text.{ascii}
+use Rattle.wire.specs.Digits.{ascii}
 use Rattle.card_text.specs.Line.{header}
 use borrow.Author.Needs.{needs}
 use Rattle.card_text.proofs.put_header.Statement.{statement}

@@ -2,7 +2,6 @@
 -- Assumes nothing.
 use native.Mathlib.Omega.{arith}
 use mathlib.Core.Path.{refl}
-use native.Mathlib.Nat.{mod-lt, lt-of-lt-of-le}
 use Rattle.card_text.proofs.Text.{Left, left-begun, left-less, left-none}
 use borrow.Author.Needs.{needs}
 use Rattle.card_text.proofs.put_number.Statement.{statement}
@@ -18,13 +17,10 @@ loop-holds : tie.Need-loop-holds Inv-loop μ-loop
 loop-holds c = left-begun _ _ _ _ _
 
 add-put : tie.Need-add-put Inv-loop μ-loop
-add-put c = omega (arith, c .before .before .before .before .pre .0, c .before .before .before .before .pre .3, c .before .before .loop .inv .within)
+add-put c = omega (arith, c .before .before .before .before .pre .0, c .before .before .before .before .pre .2, c .before .before .loop .inv .within)
 
 rem-digit : tie.Need-rem-digit Inv-loop μ-loop
 rem-digit c = c .before .before .before .before .pre .1
-
-digit-requires : tie.Need-digit-requires Inv-loop μ-loop
-digit-requires c κs = lt-of-lt-of-le (mod-lt _ (c .before .before .before .before .pre .1)) (c .before .before .before .before .pre .2)
 
 div-left : tie.Need-div-left Inv-loop μ-loop
 div-left c = c .before .before .before .before .before .before .before .before .pre .1
@@ -41,5 +37,5 @@ returns c = left-none _ _ _ _ _ _ _ _ (c .before .loop .inv) (c .loop-test .left
 pub put-number-spec : {M : Type 1} → statement M
 put-number-spec =
     tie.close
-    (tie.spec Inv-loop μ-loop loop-holds (λ c. omega arith) add-put rem-digit digit-requires (λ c κs. search needs) div-left
+    (tie.spec Inv-loop μ-loop loop-holds (λ c. omega arith) add-put rem-digit (λ c κs. search needs) (λ c κs. search needs) div-left
     (λ c. omega arith) loop-again same-length returns)

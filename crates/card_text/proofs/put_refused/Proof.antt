@@ -2,7 +2,8 @@
 -- Assumes nothing.
 use mathlib.Core.Path.{refl}
 use mathlib.Core.List.{[], _∷_}
-use Rattle.card_text.specs.Text.{ascii, numeral}
+use Rattle.wire.specs.Digits.{ascii}
+use Rattle.card_text.specs.Text.{numeral}
 use Rattle.card_text.proofs.Text.{stored-then, stored-as}
 use Rattle.card_text.proofs.Line.{refused-text}
 use borrow.Author.Needs.{needs}

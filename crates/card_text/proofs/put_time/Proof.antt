@@ -5,7 +5,8 @@ use mathlib.Core.List.{_++_}
 use native.Mathlib.Omega.{arith}
 use lib.ListN.{length}
 use lib.Seq.{length-sets}
-use Rattle.card_text.specs.Text.{ascii, Stored}
+use Rattle.wire.specs.Digits.{ascii}
+use Rattle.card_text.specs.Text.{Stored}
 use Rattle.card_text.specs.Line.{timeText}
 use Rattle.card_text.proofs.Text.{stored-then, stored-as}
 use Rattle.card_text.proofs.Line.{time-text}
@@ -14,10 +15,10 @@ use Rattle.card_text.proofs.put_time.Statement.{statement}
 use Rattle.card_text.proofs.put_time.Tie as tie
 
 put-field-requires-5 : tie.Need-put-field-requires-5
-put-field-requires-5 c κs = (omega (arith, c .before .before .before .before .before .before .before .before .before .before .before .before .before .before .before .before .before .before .before .before .before .before .before .pre, c .before .before .before .before .put-field4 .ensures .1, c .before .before .before .before .before .before .before .before .before .put-field3 .ensures .1, c .before .before .before .before .before .before .before .before .before .before .before .before .before .before .put-field2 .ensures .1, c .before .before .before .before .before .before .before .before .before .before .before .before .before .before .before .before .before .before .before .put-field .ensures .1), omega arith, omega arith, omega arith)
+put-field-requires-5 c κs = (omega (arith, c .before .before .before .before .before .before .before .before .before .before .before .before .before .before .before .before .before .before .before .before .before .before .before .pre, c .before .before .before .before .put-field4 .ensures .1, c .before .before .before .before .before .before .before .before .before .put-field3 .ensures .1, c .before .before .before .before .before .before .before .before .before .before .before .before .before .before .put-field2 .ensures .1, c .before .before .before .before .before .before .before .before .before .before .before .before .before .before .before .before .before .before .before .put-field .ensures .1), omega arith, omega arith)
 
 put-field-requires-6 : tie.Need-put-field-requires-6
-put-field-requires-6 c κs = (omega (arith, c .before .before .before .before .before .before .before .before .before .before .before .before .before .before .before .before .before .before .before .before .before .before .before .before .before .before .before .before .pre, c .before .before .before .before .put-field5 .ensures .1, c .before .before .before .before .before .before .before .before .before .put-field4 .ensures .1, c .before .before .before .before .before .before .before .before .before .before .before .before .before .before .put-field3 .ensures .1, c .before .before .before .before .before .before .before .before .before .before .before .before .before .before .before .before .before .before .before .put-field2 .ensures .1, c .before .before .before .before .before .before .before .before .before .before .before .before .before .before .before .before .before .before .before .before .before .before .before .before .put-field .ensures .1), omega arith, omega arith, omega arith)
+put-field-requires-6 c κs = (omega (arith, c .before .before .before .before .before .before .before .before .before .before .before .before .before .before .before .before .before .before .before .before .before .before .before .before .before .before .before .before .pre, c .before .before .before .before .put-field5 .ensures .1, c .before .before .before .before .before .before .before .before .before .put-field4 .ensures .1, c .before .before .before .before .before .before .before .before .before .before .before .before .before .before .put-field3 .ensures .1, c .before .before .before .before .before .before .before .before .before .before .before .before .before .before .before .before .before .before .before .put-field2 .ensures .1, c .before .before .before .before .before .before .before .before .before .before .before .before .before .before .before .before .before .before .before .before .before .before .before .before .put-field .ensures .1), omega arith, omega arith)
 
 -- the whole text, piece after piece
 whole : (c : tie.After-slice-known7) → Stored (c .before .before .before .before .before .before .before .before .before .before .before .before .before .before .before .before .before .before .before .before .before .before .before .before .before .before .before .before .before .before .before .args .out .now) (c .before .before .before .before .before .before .before .before .before .before .before .before .before .before .before .before .before .before .before .before .before .before .before .before .before .before .before .before .before .before .before .args .at) (timeText (c .before .before .before .before .before .before .before .before .before .before .before .before .before .before .before .before .before .before .before .before .before .before .before .before .before .before .before .before .before .before .before .args .time) ++ ascii ";") (c .before .before .put-field6 .last .0) (c .before .before .put-field6 .result)

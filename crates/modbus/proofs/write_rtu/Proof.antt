@@ -1,5 +1,7 @@
 -- `modbus::write_rtu` meets its contract.
 -- Assumes nothing.
+use Rattle.modbus.specs.Envelope.{message}
+use Rattle.modbus.specs.Rtu.{rtu}
 use Rattle.modbus.proofs.Answers.{no-fault, refused, written}
 use Rattle.modbus.proofs.Stores.{length-rtu}
 use borrow.Author.Needs.{needs}
@@ -9,19 +11,19 @@ use Rattle.modbus.proofs.write_rtu.Tie as tie
 returns : tie.Need-returns
 returns c =
     let a = c .before .before .before .before .before .args in
-    refused (a .«data» .now) (a .out .now) _ _ (c .before .write-fault .ensures) _ (length-rtu (a .address) (a .function) (a .«data» .now)) (c .if1 .taken)
+    refused rtu (message (a .address) (a .function) (a .«data» .now)) (a .out .now) _ _ (c .before .write-fault .ensures) (length-rtu (a .address) (a .function) (a .«data» .now)) (c .if1 .taken)
 
 put-rtu-requires : tie.Need-put-rtu-requires
 put-rtu-requires c κs =
     let judged = c .before in
     let a = judged .before .before .before .before .before .args in
-    no-fault (a .«data» .now) (a .out .now) _ _ (judged .before .write-fault .ensures) (judged .if1 .left) .1
+    no-fault rtu (message (a .address) (a .function) (a .«data» .now)) (a .out .now) _ _ (judged .before .write-fault .ensures) (judged .if1 .left) .1
 
 returns-2 : tie.Need-returns-2
 returns-2 c =
     let judged = c .before .before .before .before in
     let a = judged .before .before .before .before .before .args in
-    written (a .«data» .now) (a .out .now) _ _ (judged .before .write-fault .ensures) _ (length-rtu (a .address) (a .function) (a .«data» .now)) (judged .if1 .left) _ (c .before .before .put-rtu .ensures)
+    written rtu (message (a .address) (a .function) (a .«data» .now)) (a .out .now) _ _ (judged .before .write-fault .ensures) (length-rtu (a .address) (a .function) (a .«data» .now)) (judged .if1 .left) _ (c .before .before .put-rtu .ensures)
 
 pub write-rtu-spec : {M : Type 1} → statement M
 write-rtu-spec =

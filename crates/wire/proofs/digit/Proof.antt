@@ -1,9 +1,9 @@
--- `card_text::digit` meets its contract.
+-- `wire::digit` meets its contract.
 -- Assumes nothing.
-use Rattle.card_text.specs.Text.{ascii, digit}
+use Rattle.wire.specs.Digits.{ascii, digit}
 use borrow.Author.Needs.{needs}
-use Rattle.card_text.proofs.digit.Statement.{statement}
-use Rattle.card_text.proofs.digit.Tie as tie
+use Rattle.wire.proofs.digit.Statement.{statement}
+use Rattle.wire.proofs.digit.Tie as tie
 
 returns : tie.Need-returns
 unfolding digit ascii
