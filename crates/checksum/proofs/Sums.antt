@@ -1,4 +1,4 @@
--- Laws of the LRC: a sum goes on from byte to byte; bytes followed by their LRC have the sum 0, and by no other byte.
+-- Laws of the LRC: a sum goes on from byte to byte and over stretches; bytes followed by their LRC have the sum 0, and by no other byte.
 -- Assumes nothing.
 use mathlib.Core.Path.{_≡_, ap, _∙_}
 use mathlib.Core.List.{List, [], _∷_, _++_}
@@ -27,6 +27,10 @@ total-append : (xs ys : List ℕ) → total (xs ++ ys) ≡ total xs + total ys
 unfolding total
 total-append [] ys = omega arith
 total-append (x ∷ xs) ys = omega (arith, total-append xs ys)
+
+-- a message cut in two anywhere
+pub sum-in-stretches : (c : ℕ) (xs ys : List ℕ) → sumFrom (sumFrom c xs) ys ≡ sumFrom c (xs ++ ys)
+sum-in-stretches c xs ys = omega (arith, total-append xs ys)
 
 pub lrc-lt : (bs : List ℕ) → lrc bs < 256
 lrc-lt bs = omega arith

@@ -9,7 +9,6 @@ use lib.ListN.{length, take, drop}
 use lib.Seq.{take-at}
 use Rattle.wire.specs.Each.{Bytes}
 use Rattle.wire.specs.Refusal.{Rule, NoneHolds}
-use Rattle.wire.specs.declared.Written.{Written}
 use Rattle.wire.specs.declared.Written.the-variants.{Length}
 use Rattle.wire.specs.Numbers.{over}
 use Rattle.wire.proofs.Each.{getD-each, each-take, each-drop}

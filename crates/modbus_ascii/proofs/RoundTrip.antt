@@ -14,7 +14,6 @@ use Rattle.checksum.proofs.Sums.{lrc-lt, lrc-closes, lrc-only}
 use Rattle.wire.specs.Each.{Bytes}
 use Rattle.wire.specs.Numbers.{over}
 use Rattle.wire.specs.Refusal.{Rule, _when_, first, NoneHolds}
-use Rattle.wire.specs.Writes.{writeOutput}
 use Rattle.wire.proofs.Answer.{answered-none, accepted-as}
 use Rattle.wire.proofs.Bools.{or-neither, neither-or}
 use Rattle.wire.proofs.Each.{getD-each, each-append, each-drop, each-take}

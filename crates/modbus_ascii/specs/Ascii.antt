@@ -1,4 +1,4 @@
--- The ASCII envelope. Its characters are those received, by their codes.
+-- The ASCII envelope. A character is its code.
 -- Assumes nothing.
 use Prim.Native.Nat.{ℕ, _+_, _*_, _-_, _%_, _≤_}
 use mathlib.Core.Path.{_≡_}
@@ -77,7 +77,7 @@ ascii =
 abbrev pub asciiData : List ℕ → List ℕ
 asciiData s = saidBy ascii s .«data»
 
--- the data goes into an output
+-- and, last, that the data has room in an output
 abbrev pub readRules : List ℕ → List ℕ → List Rule
 readRules s out = asciiRules s ++ (16 when noRoom (length (asciiData s)) out ∷ [])
 
