@@ -1,7 +1,7 @@
 -- What the reader answers, and what it leaves in the output: at a fault, at an output without room, and at neither.
 -- Assumes nothing.
 use mathlib.Core.Path.{_≡_, refl, sym, ap, ap₂, _∙_}
-use mathlib.Core.Bool.{Bool, true, false, not}
+use mathlib.Core.Bool.{Bool, true, false, not, _||_}
 use mathlib.Core.List.{List, [], _∷_}
 use Prim.Native.Nat.{ℕ, _-_, _/_, _%_, _≤_}
 use native.Mathlib.Omega.{arith}
@@ -9,6 +9,7 @@ use lib.ListN.{length, getD, take, drop, length-drop}
 use lib.Seq.{sets, length-take-le}
 use lib.Dec.{eqb}
 use borrow.Author.Tests.{ltb-false, not-false}
+use Rattle.checksum.specs.Sums.{sumFrom}
 use Rattle.wire.specs.Numbers.{over}
 use Rattle.wire.specs.Refusal.{Rule, _when_, first}
 use Rattle.wire.proofs.Answer.{answers-refused, answers-accepted}
@@ -17,7 +18,7 @@ use Rattle.wire.proofs.Refusal.{first-hits, first-skips, none-first, hit, skip}
 use Rattle.wire.proofs.Writing.{sets-over}
 use Rattle.modbus.specs.Envelope.{saidBy, noRoom}
 use Rattle.modbus_ascii.specs.Hex.{ofHex, allDigits}
-use Rattle.modbus_ascii.specs.Ascii.{ascii, inside, badCharacters, asciiRules, asciiData, readRules, foundAscii, readAscii, asciiOutput}
+use Rattle.modbus_ascii.specs.Ascii.{ascii, colon, carriageReturn, lineFeed, inside, badMarks, badCharacters, badLrc, asciiRules, asciiData, readRules, foundAscii, readAscii, asciiOutput}
 use Rattle.modbus_ascii.specs.declared.AsciiRead.{AsciiRead}
 use Rattle.modbus_ascii.specs.declared.AsciiRead.the-variants.{Ascii as Found, Refused}
 use Rattle.modbus_ascii.proofs.Pairs.{length-ofHex, same-digits}
@@ -33,6 +34,16 @@ length-data s =
     let p = ofHex (inside s) in
     let within : length p - 3 ≤ length (drop 2 p) = rw length-drop (omega arith) in
     length-take-le (length p - 3) (drop 2 p) within ∙ ap (λ (n : ℕ). n - 3) (length-ofHex (inside s))
+
+-- the tests of 62 and 64, on what the code's calls answered
+pub marks-tested : (s : List ℕ) (a b c : ℕ) → a ≡ getD s 0 0 → b ≡ getD s (length s - 2) 0 → c ≡ getD s (length s - 1) 0
+    → (not (eqb a colon) || not (eqb b carriageReturn) || not (eqb c lineFeed)) ≡ badMarks s
+marks-tested s a b c ea eb ec =
+    ap₂ (λ (x y : ℕ). not (eqb x colon) || not (eqb y carriageReturn) || not (eqb c lineFeed)) ea eb
+    ∙ ap (λ (z : ℕ). not (eqb (getD s 0 0) colon) || not (eqb (getD s (length s - 2) 0) carriageReturn) || not (eqb z lineFeed)) ec
+
+pub lrc-tested : (s t : List ℕ) (r : ℕ) → t ≡ inside s → r ≡ sumFrom 0 (ofHex t) → not (eqb r 0) ≡ badLrc s
+lrc-tested s t r et er = ap (λ (x : ℕ). not (eqb x 0)) (er ∙ ap (λ (l : List ℕ). sumFrom 0 (ofHex l)) et)
 
 -- no 63: digits stand between the marks; r is what the code's test answered
 pub digits-inside : (s : List ℕ) (r : Bool) → r ≡ badCharacters s → r ≡ false → allDigits (inside s) ≡ true
