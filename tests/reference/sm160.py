@@ -127,3 +127,9 @@ def receive(state, frame, buffer):
     if is_end(frame):
         return 0, (True, held), (session, False, 0), buffer
     return 0, (False, held), (session, True, held), buffer
+
+
+def of_one_file(file, frame):
+    """W-212: the frame's bytes stand in the file at its offset, and END is set only where the file ends."""
+    place, end = offset_field(frame), offset_field(frame) + len(part(frame))
+    return file[place:end] == part(frame) and (not is_end(frame) or end == len(file))

@@ -11,8 +11,10 @@ use Rattle.demand3.specs.Feeding.{Side, side, Exchange, exchange, frames
 use Rattle.demand3.specs.Calls.{ByOpen, of-open, ByCall, of-receive, of-receive-lent, of-receive-plain, Calls}
 use Rattle.demand3.specs.Arrival.{Item, all, Arrives, Delivered}
 use Rattle.demand3.specs.Completion.{acceptedFrames, sinceStart, HoldsFile}
+use Rattle.demand3.specs.OneFile.{OfOneFile, Reports}
 use Rattle.demand3.proofs.Delivery.{delivered}
 use Rattle.demand3.proofs.Completed.{completed}
+use Rattle.demand3.proofs.OneFile.{one-file}
 
 -- ---- a call that met its contract is the receiver's step
 by-step : (σ : Side) (x : Exchange) (τ : Side) → ByCall σ x τ → ByStep σ x τ
@@ -54,25 +56,41 @@ pub completed-by-calls : (session : ℕ) (b : List ℕ) (xs : List Exchange) (τ
     → Calls session b xs τ → EndsWith (Complete n) xs → HoldsFile session n (τ .buffer) (sinceStart (acceptedFrames xs))
 completed-by-calls session b xs τ n c w = completed session b xs τ n (steps session b xs τ c) w
 
+-- ---- one file, cut in two ways
+
+-- A receiver stands anywhere, at σ, and calls with xs lead to τ. Where an accepted START is the first of these, it and every frame accepted
+-- after it hold bytes of one file, and the last is answered with completion: it reports that file, whole.
+pub one-file-by-calls : (file : List ℕ) (σ : Side) (xs : List Exchange) (τ : Side) (n : ℕ)
+    → Fed ByCall σ xs τ → OfOneFile file xs → EndsWith (Complete n) xs → Reports file n (σ .buffer) (τ .buffer)
+one-file-by-calls file σ xs τ n e h w = one-file file σ xs τ n (by-steps σ xs τ e) h w
+
 -- ---- and there are such calls, with any frames
 
 -- a reference, wherever it points
 abbrev ref : {A : Type 0} → A → RefT A
 ref value = record { ptr = (0, 0); name = 0; now = value }
 
+-- a step is a call that met its contract
+as-call : (σ : Side) (x : Exchange) (τ : Side) → ByStep σ x τ → ByCall σ x τ
+as-call σ x τ met =
+    of-receive ([], ([], tt))
+    (σ .state, (ref (x .frame), (ref (σ .buffer), tt)))
+    (record { answer = x .answer; state = τ .state })
+    (σ .state, (ref (x .frame), (ref (τ .buffer), tt)))
+    met
+
+pub as-calls : (σ : Side) (xs : List Exchange) (τ : Side) → Fed ByStep σ xs τ → Fed ByCall σ xs τ
+unfolding Fed
+as-calls σ [] τ e = e
+as-calls σ (x ∷ xs) τ e = (e .0, as-call σ x (e .0) (e .1), as-calls (e .0) xs τ (e .2))
+
 call-with : (σ : Side) (f : List ℕ) → (x : Exchange) × (τ : Side) × ByCall σ x τ × (x .frame ≡ f)
 unfolding Took
 call-with σ f =
-    let o = step (σ .state) f (σ .buffer) in (
-      exchange f (o .answer),
-      side (o .state) (o .buffer),
-      of-receive ([], ([], tt))
-          (σ .state, (ref f, (ref (σ .buffer), tt)))
-          (record { answer = o .answer; state = o .state })
-          (σ .state, (ref f, (ref (o .buffer), tt)))
-          refl,
-      refl,
-    )
+    let o = step (σ .state) f (σ .buffer) in
+    let x = exchange f (o .answer) in
+    let τ = side (o .state) (o .buffer) in
+    (x, τ, as-call σ x τ refl, refl)
 
 pub fed-with : (σ : Side) (fs : List (List ℕ)) → (xs : List Exchange) × (τ : Side) × Fed ByCall σ xs τ × (framesOf xs ≡ fs)
 unfolding Fed
@@ -82,7 +100,11 @@ fed-with σ (f ∷ fs) =
     let more = fed-with (one .1) fs in
     (one .0 ∷ more .0, more .1, (one .1, one .2, more .2), ap₂ (λ (g : List ℕ) (gs : List (List ℕ)). g ∷ gs) (one .3) (more .3))
 
+-- a receiver can be opened
+pub from-opening : (session : ℕ) (b : List ℕ) (xs : List Exchange) (τ : Side) → Fed ByCall (newly session b) xs τ → Calls session b xs τ
+from-opening session b xs τ e = (opened session, of-open tt (session, tt) (opened session) (session, tt) refl, e)
+
 pub calls-with : (session : ℕ) (b : List ℕ) (fs : List (List ℕ)) → (xs : List Exchange) × (τ : Side) × Calls session b xs τ × (framesOf xs ≡ fs)
 calls-with session b fs =
     let fed = fed-with (newly session b) fs in
-    (fed .0, fed .1, (opened session, of-open tt (session, tt) (opened session) (session, tt) refl, fed .2), fed .3)
+    (fed .0, fed .1, from-opening session b (fed .0) (fed .1) (fed .2), fed .3)

@@ -7,16 +7,16 @@ use mathlib.Core.List.{List, [], _∷_, _++_, append-nil, append-assoc}
 use Prim.Native.Nat.{ℕ, _+_, _≤_}
 use native.Mathlib.Nat.{add-zero, zero-add, add-assoc}
 use native.Mathlib.Omega.{arith}
-use lib.ListN.{length, take, drop, length-append}
-use lib.Seq.{sets, sets-eq, take-at, length-take-le}
+use lib.ListN.{length, take, length-append}
+use lib.Seq.{sets}
 use Rattle.sm160_frame.specs.Layout.{offsetOf, partOf, isStart, isEnd}
 use Rattle.sm160_frame.specs.Carried.{Carries, none, InTurn, joined}
-use Rattle.sm160_receiver.specs.Receiving.{reached, reply, stateAfter}
+use Rattle.sm160_receiver.specs.Receiving.{reached, stateAfter}
 use Rattle.sm160_receiver.specs.declared.Receiver.{Receiver}
 use Rattle.sm160_receiver.specs.declared.Answer.the-variants.{Complete}
 use Rattle.demand3.specs.Feeding.{Side, side, Exchange, exchange, EndsWith, Fed, ByStep, newly, Steps}
 use Rattle.demand3.specs.Completion.{isRefused, acceptedFrames, keepFrom, sinceStart, HoldsFile}
-use Rattle.demand3.proofs.Taking.{Taken, either-way, taken-not, reaches, FitFor, fit-newly, fit-next}
+use Rattle.demand3.proofs.Taking.{take-sets, reply-complete, Taken, either-way, taken-not, reaches, FitFor, fit-newly, fit-next}
 
 -- ---- frames that carry the beginning of a file: as `InTurn`, but END is on none
 Begin : ℕ → ℕ → Bool → List (List ℕ) → Type 0
@@ -73,13 +73,6 @@ joined-snoc : (fs : List (List ℕ)) (f : List ℕ) → joined (fs ++ (f ∷ [])
 unfolding joined
 joined-snoc [] f = append-nil (partOf f)
 joined-snoc (g ∷ fs) f = ap (λ (l : List ℕ). partOf g ++ l) (joined-snoc fs f) ∙ sym (append-assoc (partOf g) (joined fs) (partOf f))
-
--- up to the part's end the buffer is what stood before the part, and the part
-take-sets : (b : List ℕ) (place : ℕ) (p : List ℕ) → place + length p ≤ length b → take (place + length p) (sets b place p) ≡ take place b ++ p
-take-sets b place p h =
-    let n : length (take place b ++ p) ≡ place + length p =
-    length-append (take place b) p ∙ ap (λ (k : ℕ). k + length p) (length-take-le place b (omega arith)) in
-    ap (take (place + length p)) (sets-eq p b place h) ∙ take-at (take place b ++ p) (drop (place + length p) b) (place + length p) n
 
 -- ---- a receiver with a file under way holds the kept frames' parts
 record Begun (session n : ℕ) (b : List ℕ) (fs : List (List ℕ)) : Type 0 where
@@ -175,12 +168,7 @@ sound-next session m σ kept x τ e i h =
 
 -- ---- the demand
 
--- an answer of completion: END is set, and the length is where the frame's part ends
-reply-complete : (end : Bool) (m n : ℕ) → reply end m ≡ Complete n → (end ≡ true) × (m ≡ n)
-reply-complete true m n e = (refl, (cc))
-reply-complete false m n e = absurd (let z : _≡_ {A = ℕ} 0 1 = cc in omega arith)
-
-abbrev completing : List ℕ → ℕ → List Exchange
+abbrev pub completing : List ℕ → ℕ → List Exchange
 completing f n = exchange f (Complete n) ∷ []
 
 completes : (session m : ℕ) (σ : Side) (kept : List (List ℕ)) (earlier : List Exchange) (f : List ℕ) (n : ℕ) (τ : Side) → FitFor session m σ → Sound session σ kept

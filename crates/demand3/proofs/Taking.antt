@@ -3,23 +3,47 @@
 use mathlib.Core.Path.{_≡_, refl, sym, ap, subst, _∙_}
 use mathlib.Core.Logic.{_⊎_, inl, inr, ⊎-elim}
 use mathlib.Core.Bool.{Bool, true, false, not, _&&_, false≢true}
-use mathlib.Core.List.{List, [], _∷_}
-use Prim.Native.Nat.{ℕ, zero, suc, _≤_, _<_}
+use mathlib.Core.List.{List, [], _∷_, _++_}
+use Prim.Native.Nat.{ℕ, zero, suc, _+_, _-_, _≤_, _<_}
 use native.Mathlib.Omega.{arith}
 use borrow.Author.Tests.{ltb-false, eqb-true, eqb-false, not-true, not-false, le-ltb, eq-eqb, ne-eqb}
 use lib.Dec.{eqb, ltb}
-use lib.ListN.{length}
-use lib.Seq.{sets, length-sets}
+use lib.ListN.{length, take, drop, length-append}
+use lib.Seq.{sets, length-sets, sets-eq, take-at, length-take-le, drop-append-add, drop-drop}
 use Rattle.wire.proofs.Bools.{or-neither}
 use Rattle.wire.proofs.Refusal.{first-none, none-first, none-append, none-both}
 use Rattle.sm160_frame.specs.Layout.{sessionOf, offsetOf, partOf, isStart, isEnd}
 use Rattle.sm160_frame.specs.Reading.{frameRules, frameFault}
 use Rattle.sm160_receiver.specs.Receiving.{opened, standing, reached, unfit, placeRules, receiveRules, refusal, reply, stateAfter, After, Took}
 use Rattle.sm160_receiver.specs.declared.Receiver.{Receiver}
-use Rattle.sm160_receiver.specs.declared.Answer.the-variants.{Refused}
+use Rattle.sm160_receiver.specs.declared.Answer.the-variants.{Complete, Refused}
 use Rattle.sm160_receiver.proofs.Steps.{step-refused, step-accepted}
 use Rattle.demand3.specs.Feeding.{Side, side, Exchange, Fed, ByStep, newly}
 use Rattle.demand3.specs.Completion.{isRefused}
+use Rattle.demand3.specs.OneFile.{Accepted}
+
+-- ---- a part that is stored
+module _ (b : List ℕ) (place : ℕ) (p : List ℕ) (h : place + length p ≤ length b) where
+  length-head : length (take place b ++ p) ≡ place + length p
+  length-head = length-append (take place b) p ∙ ap (λ (k : ℕ). k + length p) (length-take-le place b (omega arith))
+
+  -- up to the part's end the buffer is what stood before the part, and the part
+  pub take-sets : take (place + length p) (sets b place p) ≡ take place b ++ p
+  take-sets =
+      ap (take (place + length p)) (sets-eq p b place h) ∙ take-at (take place b ++ p) (drop (place + length p) b) (place + length p) length-head
+
+  -- behind the part it is as it was
+  pub drop-sets : (n : ℕ) → place + length p ≤ n → drop n (sets b place p) ≡ drop n b
+  drop-sets n k =
+      let m = place + length p in
+      let head = take place b ++ p in
+      let more : n ≡ length head + (n - m) = omega (arith, length-head) in
+      let again : m + (n - m) ≡ n = omega arith in
+      ap (drop n) (sets-eq p b place h)
+      ∙ ap (λ (j : ℕ). drop j (head ++ drop m b)) more
+      ∙ drop-append-add head (drop m b) (n - m)
+      ∙ drop-drop (n - m) m b
+      ∙ ap (λ (j : ℕ). drop j b) again
 
 -- ---- a frame is taken where no rule holds
 and-no : (a b : Bool) → (a ≡ true → b ≡ false) → (a && b) ≡ false
@@ -113,6 +137,15 @@ reply-not false n = refl
 pub taken-not : (σ : Side) (x : Exchange) (τ : Side) → IsTaken σ x τ → isRefused (x .answer) ≡ false
 taken-not σ x τ w = ap isRefused (w .answered) ∙ reply-not (isEnd (x .frame)) (reached (x .frame))
 
+-- and what is not answered with one is taken
+pub accepted-taken : (σ : Side) (x : Exchange) (τ : Side) → ByStep σ x τ → Accepted x → IsTaken σ x τ
+accepted-taken σ x τ e a = ⊎-elim (λ w. absurd (false≢true (sym a ∙ ap isRefused (w .answered)))) (λ w. w) (either-way σ x τ e)
+
+-- an answer of completion: END is set, and the length is where the frame's part ends
+pub reply-complete : (end : Bool) (m n : ℕ) → reply end m ≡ Complete n → (end ≡ true) × (m ≡ n)
+reply-complete true m n e = (refl, (cc))
+reply-complete false m n e = absurd (let z : _≡_ {A = ℕ} 0 1 = cc in omega arith)
+
 -- a refusal changes nothing
 pub unchanged : (σ : Side) (x : Exchange) (τ : Side) (n : ℕ) → ByStep σ x τ → x .answer ≡ Refused n → τ ≡ σ
 unchanged σ x τ n e r = ⊎-elim (λ w. w .same) (λ w. absurd (false≢true (sym (taken-not σ x τ w) ∙ ap isRefused r))) (either-way σ x τ e)
@@ -140,12 +173,16 @@ pub fit-newly : (session : ℕ) (b : List ℕ) → FitFor session (length b) (ne
 fit-newly session b = record { ours = refl; room = refl; fit = fit-idle (opened session) b }
 
 -- a good frame's part has a byte or more, so it reaches beyond 0
-pub reaches : (f : List ℕ) → frameFault f ≡ 0 → 0 < reached f
-unfolding frameFault reached
-reaches f e =
+pub some-part : (f : List ℕ) → frameFault f ≡ 0 → 0 < length (partOf f)
+unfolding frameFault
+some-part f e =
     let g = none-first (frameRules f) tt e in
     let some : length (partOf f) ≡ 0 → ⊥ = eqb-false _ _ (or-neither (eqb (length (partOf f)) 0) (ltb 240 (length (partOf f))) (g .1 .1 .0) .0) in
     omega arith
+
+pub reaches : (f : List ℕ) → frameFault f ≡ 0 → 0 < reached f
+unfolding reached
+reaches f e = omega (arith, some-part f e)
 
 fit-landed : (session m : ℕ) (σ : Side) (f : List ℕ) → FitFor session m σ → Taken σ f → FitFor session m (landed σ f)
 fit-landed session m σ f i t =

@@ -2,3 +2,5 @@ pub mod Feeding
 pub mod Calls
 pub mod Arrival
 pub mod Completion
+pub mod OneFile
+pub mod TwoCuts

@@ -2,7 +2,7 @@
 from cases.making import changed, flipped, pattern, with_faults
 from crc import low_byte_first
 from printed import FRAMES
-from sm160 import END, START, frame_bytes, frame_crc
+from sm160 import END, QA, START, frame_bytes, frame_crc, of_one_file
 from sm160 import receive as received
 
 WIDEST = 2 ** 64 - 1
@@ -120,14 +120,18 @@ def send(rng):
         yield *build({**good, "more": more}), 16 if more < 0 else 0
 
 
-def cut(rng, session, file):
-    """The frames of a file, cut anywhere into parts of 1 to 20 bytes."""
-    frames, place = [], 0
-    while place < len(file):
-        part = file[place:place + rng.randint(1, 20)]
-        flags = (START if place == 0 else 0) | (END if place + len(part) == len(file) else 0)
-        frames.append(frame_bytes(session, place, flags, part))
-        place += len(part)
+def piece(session, file, place, end):
+    """The frame of a file's bytes from a place to an end."""
+    return frame_bytes(session, place, (START if place == 0 else 0) | (END if end == len(file) else 0), file[place:end])
+
+
+def cut(rng, session, file, largest=20, place=0, end=None):
+    """The frames of a file, or of its bytes from a place to an end, cut anywhere into parts of 1 byte up to the largest."""
+    frames, end = [], len(file) if end is None else end
+    while place < end:
+        after = min(end, place + rng.randint(1, largest))
+        frames.append(piece(session, file, place, after))
+        place = after
     return frames
 
 
@@ -153,6 +157,57 @@ def transfers(rng):
                 _, answer, state, buffer = received(state, one, buffer)
             if clean:
                 assert answer == (True, len(file)) and buffer == file + before[len(file):]
+
+
+def refused_at(rng, session, file, held, room):
+    """Frames of each kind that a receiver refuses while it holds so many bytes of a file, at least one and not all, each with its number."""
+    whole = piece(session, file, held, min(len(file), held + 240))
+    short, bit = rng.randrange(len(whole)), rng.randrange(8 * len(whole))
+    part, beyond = whole[12:], room - held + 1
+    yield 21 if short < 12 else 22, whole[:short]
+    yield 22 if bit // 8 in (6, 7) else 24, flipped(whole, bit)
+    yield 23, frame_bytes(session, held, END, b"")
+    yield 25, frame_bytes(session, held, QA, part)
+    yield 26, piece(session ^ 1, file, held, held + 1)
+    yield 28, frame_bytes(session, held, START, part)
+    yield 31 if beyond <= 240 else 23, frame_bytes(session, held, END, pattern(beyond))
+    if held > 1:
+        place = rng.randrange(max(1, held - 240), held)
+        # a part again, as it came, and one of another cut that begins among the bytes held
+        yield 29, piece(session, file, place, held)
+        yield 29, piece(session, file, place, min(len(file), place + 240))
+    if held + 1 < len(file):
+        yield 30, piece(session, file, held + 1, min(len(file), held + 241))
+
+
+def resumed(rng, session, file, place, first, second):
+    """W-212: a file cut by one largest part up to a place, refused frames of some kinds, and on from there, or from START again, by another."""
+    room = len(file) + rng.randrange(4)
+    state, buffer = (session, True, 1), pattern(room, 0x31)
+    before, again = buffer, rng.choice((place, place, place, 0))
+    refused = list(refused_at(rng, session, file, place, room))
+    course = [(0, one) for one in cut(rng, session, file, first, 0, place)]
+    course += rng.sample(refused, min(4, len(refused)))
+    course += [(0, one) for one in cut(rng, session, file, second, again)]
+    course.append((27, piece(session, file, len(file) - 1, len(file))))
+    reported = []
+    for number, one in course:
+        yield [state[0], int(state[1]), state[2]], [one, buffer], number
+        refusal, answer, state, buffer = received(state, one, buffer)
+        assert refusal or of_one_file(file, one)
+        if answer and answer[0]:
+            reported.append(answer)
+            assert buffer == file + before[len(file):]
+    assert reported == [(True, len(file))]
+
+
+def in_two_ways(rng):
+    """Files of 2 to 10 bytes, resumed at each place, and some with parts of real size."""
+    for size in range(2, 11):
+        for place in range(1, size):
+            yield from resumed(rng, rng.choice((1, 0x0102, 0xFFFF)), rng.randbytes(size), place, rng.randint(1, 4), rng.randint(1, 4))
+    for size, place, first, second in ((245, 136, 68, 240), (500, 240, 240, 68), (481, 480, 240, 239)):
+        yield from resumed(rng, 2, rng.randbytes(size), place, first, second)
 
 
 def receive(rng):
@@ -213,6 +268,7 @@ def receive(rng):
     for state in ([0x0102, 0, 1], [0x0102, 1, 0], [0x0102, 1, 21]):
         yield state, [b"", pattern(20)], 20
         yield state, [frame(idle), pattern(20)], 20
+    yield from in_two_ways(rng)
 
 
 CASES = {40: read_frame, 41: write_frame, 42: send, 43: receive}
