@@ -36,60 +36,55 @@ module _ (file b : List ℕ) where
     rest : Rest τ
     reports : (n : ℕ) → x .answer ≡ Complete n → Reports file n b (τ .buffer)
 
-  -- f is taken at σ, where the bytes before it are the file's
-  module _ (σ : Side) (f : List ℕ) (t : Taken σ f) (stands : StandsIn file f) (ends : EndsOnlyWith file f)
-      (before : take (offsetOf f) (σ .buffer) ≡ take (offsetOf f) file) (behind : Rest σ) where
-    abbrev Stored : List ℕ
-    Stored = sets (σ .buffer) (offsetOf f) (partOf f)
+  -- a frame is taken at σ, where the bytes before its part are the file's
+  module _ (σ : Side) (x : Exchange) (τ : Side) (w : IsTaken σ x τ) (stands : StandsIn file (x .frame)) (ends : EndsOnlyWith file (x .frame))
+      (before : take (offsetOf (x .frame)) (σ .buffer) ≡ take (offsetOf (x .frame)) file) (behind : Rest σ) where
+    abbrev F : List ℕ
+    F = x .frame
 
-    stored-front : take (reached f) Stored ≡ take (reached f) file
+    abbrev Stored : List ℕ
+    Stored = sets (σ .buffer) (offsetOf F) (partOf F)
+
+    stored-front : take (reached F) Stored ≡ take (reached F) file
     unfolding reached
     stored-front =
-        take-sets (σ .buffer) (offsetOf f) (partOf f) (t .room)
-        ∙ ap₂ (λ (x y : List ℕ). x ++ y) before stands
-        ∙ sym (take-add (offsetOf f) (length (partOf f)) file)
+        take-sets (σ .buffer) (offsetOf F) (partOf F) (w .able .room)
+        ∙ ap₂ (λ (p q : List ℕ). p ++ q) before stands
+        ∙ sym (take-add (offsetOf F) (length (partOf F)) file)
 
     stored-rest : drop (length file) Stored ≡ drop (length file) b
     unfolding reached
     stored-rest =
-        drop-sets (σ .buffer) (offsetOf f) (partOf f) (t .room) (length file)
-        (within file (offsetOf f) (length (partOf f)) (ap length stands) (some-part f (t .good)))
+        drop-sets (σ .buffer) (offsetOf F) (partOf F) (w .able .room) (length file)
+        (within file (offsetOf F) (length (partOf F)) (ap length stands) (some-part F (w .able .good)))
         ∙ behind
 
-    stored-under-way : (end : Bool) → Front (side (stateAfter end (σ .state) (reached f)) Stored)
-    stored-under-way true u = absurd (false≢true u)
-    stored-under-way false u = stored-front
+    under-way : (end : Bool) → Front (side (stateAfter end (σ .state) (reached F)) Stored)
+    under-way true u = absurd (false≢true u)
+    under-way false u = stored-front
 
-    stored-whole : isEnd f ≡ true → Reports file (reached f) b Stored
-    stored-whole e =
+    completed : isEnd F ≡ true → Reports file (reached F) b Stored
+    completed e =
         let n = ends e in
-        record {
-          whole = n;
-          bytes =
-              sym (take-append-drop (length file) Stored)
-              ∙ ap₂ (λ (x y : List ℕ). x ++ y)
-              (ap (λ (k : ℕ). take k Stored) (sym n) ∙ stored-front ∙ ap (λ (k : ℕ). take k file) n ∙ take-length file) stored-rest;
-        }
+        let whole : take (length file) Stored ≡ file = rw⁻¹ n (stored-front ∙ ap (λ (k : ℕ). take k file) n ∙ take-length file) in
+        record { true-length = n; bytes = sym (take-append-drop (length file) Stored) ∙ ap₂ (λ (p q : List ℕ). p ++ q) whole stored-rest }
 
-  goes : (σ : Side) (x : Exchange) (τ : Side) → IsTaken σ x τ → StandsIn file (x .frame) → EndsOnlyWith file (x .frame)
-      → take (offsetOf (x .frame)) (σ .buffer) ≡ take (offsetOf (x .frame)) file → Rest σ → Goes x τ
-  goes σ x τ w stands ends before behind =
-      let f = x .frame in
-      let t = w .able in
-      subst (Goes x) (sym (w .lands))
-      (record {
-        front = stored-under-way σ f t stands ends before behind (isEnd f);
-        rest = stored-rest σ f t stands ends before behind;
-        reports = λ n e.
-            let c = reply-complete (isEnd f) (reached f) n (sym (w .answered) ∙ e) in
-            subst (λ (k : ℕ). Reports file k b (sets (σ .buffer) (offsetOf f) (partOf f))) (c .1) (stored-whole σ f t stands ends before behind (c .0));
-      })
+    goes : Goes x τ
+    goes =
+        subst (Goes x) (sym (w .lands))
+        (record {
+          front = under-way (isEnd F);
+          rest = stored-rest;
+          reports = λ n e.
+              let c = reply-complete (isEnd F) (reached F) n (sym (w .answered) ∙ e) in
+              subst (λ (k : ℕ). Reports file k b Stored) (c .1) (completed (c .0));
+        })
 
+  -- so they are where it is a START, and where the bytes held are the file's
   before-part : (start : Bool) (σ : Side) (f : List ℕ) → isStart f ≡ start → Taken σ f → (start ≡ false → Front σ)
       → take (offsetOf f) (σ .buffer) ≡ take (offsetOf f) file
-  before-part true σ f e t h = let z = t .at-start e in ap (λ (k : ℕ). take k (σ .buffer)) z ∙ sym (ap (λ (k : ℕ). take k file) z)
-  before-part false σ f e t h =
-      let z = t .at-count e in ap (λ (k : ℕ). take k (σ .buffer)) z ∙ h refl (t .going e) ∙ sym (ap (λ (k : ℕ). take k file) z)
+  before-part true σ f e t h = rw (t .at-start e) refl
+  before-part false σ f e t h = rw (t .at-count e) (h refl (t .going e))
 
   -- one frame after START, refused or not
   goes-on : (σ : Side) (x : Exchange) (τ : Side) → ByStep σ x τ → Front σ → Rest σ
@@ -106,14 +101,15 @@ module _ (file b : List ℕ) where
       goes σ x τ w (stands ok) (ends ok) (before-part (isStart (x .frame)) σ (x .frame) refl (w .able) (λ _. front)) rest)
       (either-way σ x τ e)
 
-  completes : (x : Exchange) (σ : Side) (earlier : List Exchange) (f : List ℕ) (n : ℕ) (τ : Side) → Goes x σ
+  completes : (σ : Side) (earlier : List Exchange) (f : List ℕ) (n : ℕ) (τ : Side) → Front σ → Rest σ
       → Fed ByStep σ (earlier ++ completing f n) τ → EachAccepted (StandsIn file) (earlier ++ completing f n) → EachAccepted (EndsOnlyWith file) (earlier ++ completing f n)
       → Reports file n b (τ .buffer)
   unfolding Fed EachAccepted
-  completes x σ [] f n τ g e stand end =
-      subst (λ (ρ : Side). Reports file n b (ρ .buffer)) (sym (e .2)) (goes-on σ _ (e .0) (e .1) (g .front) (g .rest) (stand .0) (end .0) .reports n refl)
-  completes x σ (y ∷ earlier) f n τ g e stand end =
-      completes y (e .0) earlier f n τ (goes-on σ y (e .0) (e .1) (g .front) (g .rest) (stand .0) (end .0)) (e .2) (stand .1) (end .1)
+  completes σ [] f n τ front rest e stand end =
+      rw (e .2) (goes-on σ _ (e .0) (e .1) front rest (stand .0) (end .0) .reports n refl)
+  completes σ (x ∷ earlier) f n τ front rest e stand end =
+      let g = goes-on σ x (e .0) (e .1) front rest (stand .0) (end .0) in
+      completes (e .0) earlier f n τ (g .front) (g .rest) (e .2) (stand .1) (end .1)
 
 -- ---- from START on
 starts : (file : List ℕ) (σ : Side) (x : Exchange) (τ : Side) → ByStep σ x τ → isStart (x .frame) ≡ true → Accepted x
@@ -126,11 +122,10 @@ starts file σ x τ e start ok stands ends =
 from-start : (file : List ℕ) (σ : Side) (earlier : List Exchange) (f : List ℕ) (n : ℕ) (τ : Side)
     → Fed ByStep σ (earlier ++ completing f n) τ → OfOneFile file (earlier ++ completing f n) → Reports file n (σ .buffer) (τ .buffer)
 unfolding Fed StartFirst EachAccepted
-from-start file σ [] f n τ e h =
-    subst (λ (ρ : Side). Reports file n (σ .buffer) (ρ .buffer)) (sym (e .2))
-    (starts file σ _ (e .0) (e .1) (h .start .0) (h .start .1) (h .stand .0) (h .end .0) .reports n refl)
+from-start file σ [] f n τ e h = rw (e .2) (starts file σ _ (e .0) (e .1) (h .start .0) (h .start .1) (h .stand .0) (h .end .0) .reports n refl)
 from-start file σ (x ∷ earlier) f n τ e h =
-    completes file (σ .buffer) x (e .0) earlier f n τ (starts file σ x (e .0) (e .1) (h .start .0) (h .start .1) (h .stand .0) (h .end .0)) (e .2) (h .stand .1) (h .end .1)
+    let g = starts file σ x (e .0) (e .1) (h .start .0) (h .start .1) (h .stand .0) (h .end .0) in
+    completes file (σ .buffer) (e .0) earlier f n τ (g .front) (g .rest) (e .2) (h .stand .1) (h .end .1)
 
 -- A receiver is at σ, whatever came before, and is fed frames, of which the first is an accepted START and the accepted ones are of one file.
 -- Where the last is answered with completion, it reports that file, whole.

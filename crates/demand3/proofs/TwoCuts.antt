@@ -11,7 +11,7 @@ use Rattle.checksum.specs.Crc.{crcBits, crcFrom}
 use Rattle.sm160_frame.specs.Layout.{END, crcDue, partOf, isStart, isEnd, frameWith, frameBytes}
 use Rattle.sm160_receiver.specs.Receiving.{opened, holding, reached, unfit, refusal, step, Took}
 use Rattle.sm160_receiver.specs.declared.Answer.the-variants.{Complete}
-use Rattle.demand3.specs.Feeding.{Side, side, EndsWith, Fed, ByStep, newly}
+use Rattle.demand3.specs.Feeding.{Side, side, EndsWith, Fed, newly}
 use Rattle.demand3.specs.Calls.{ByCall, Calls}
 use Rattle.demand3.specs.OneFile.{StartFirst, EachAccepted, OfOneFile}
 use Rattle.demand3.specs.TwoCuts.{eightBytes, lentBuffer, stump, twoCuts}
@@ -20,19 +20,12 @@ use Rattle.demand3.proofs.ByCalls.{as-calls, from-opening}
 abbrev afterStump : Side
 afterStump = side (holding 7 3) (0 ∷ 0 ∷ 0 ∷ drop 3 lentBuffer)
 
-stump-fed : Fed ByStep (newly 7 lentBuffer) stump afterStump
-unfolding digits number le ofLe field pick crcBits crcFrom crcDue partOf isStart isEnd frameWith frameBytes reached unfit refusal step Took Fed
-stump-fed = (afterStump, refl, refl)
-
-abbrev afterCuts : Side
-afterCuts = side (opened 7) (eightBytes ++ drop 8 lentBuffer)
-
+-- n bytes of the file held, over the stump
 abbrev held : ℕ → Side
 held n = side (holding 7 n) (take n eightBytes ++ drop n (afterStump .buffer))
 
-cuts-fed : Fed ByStep afterStump twoCuts afterCuts
-unfolding digits number le ofLe field pick crcBits crcFrom crcDue partOf isStart isEnd frameWith frameBytes reached unfit refusal step Took Fed
-cuts-fed = (held 2, refl, (held 4, refl, (held 4, refl, (held 4, refl, (held 7, refl, (afterCuts, refl, refl))))))
+abbrev afterCuts : Side
+afterCuts = side (opened 7) (eightBytes ++ drop 8 lentBuffer)
 
 -- nothing is asked of a refused frame, nor END's place of a frame without it
 refused : {A : Type 0} → true ≡ false → A
@@ -41,21 +34,17 @@ refused e = absurd (true≢false e)
 no-end : {A : Type 0} → false ≡ true → A
 no-end e = absurd (false≢true e)
 
-of-eight-bytes : OfOneFile eightBytes twoCuts
-unfolding digits number le ofLe field pick crcBits crcFrom crcDue partOf isStart isEnd frameWith frameBytes reached unfit StartFirst EachAccepted
-of-eight-bytes =
-    record {
-      start = (refl, refl);
-      stand = (λ _. refl, (λ _. refl, (refused, (refused, (λ _. refl, (λ _. refl, tt))))));
-      end = (λ _. no-end, (λ _. no-end, (refused, (refused, (λ _. no-end, (λ _ _. refl, tt))))));
-    }
-
 pub two-cuts : (σ τ : Side) × Calls 7 lentBuffer stump σ × Fed ByCall σ twoCuts τ × OfOneFile eightBytes twoCuts × EndsWith (Complete 8) twoCuts
+unfolding digits number le ofLe field pick crcBits crcFrom crcDue partOf isStart isEnd frameWith frameBytes reached unfit refusal step Took Fed StartFirst EachAccepted
 two-cuts = (
   afterStump,
   afterCuts,
-  from-opening 7 lentBuffer stump afterStump (as-calls (newly 7 lentBuffer) stump afterStump stump-fed),
-  as-calls afterStump twoCuts afterCuts cuts-fed,
-  of-eight-bytes,
+  from-opening 7 lentBuffer stump afterStump (as-calls (newly 7 lentBuffer) stump afterStump (afterStump, refl, refl)),
+  as-calls afterStump twoCuts afterCuts (held 2, refl, (held 4, refl, (held 4, refl, (held 4, refl, (held 7, refl, (afterCuts, refl, refl)))))),
+  record {
+    start = (refl, refl);
+    stand = (λ _. refl, (λ _. refl, (refused, (refused, (λ _. refl, (λ _. refl, tt))))));
+    end = (λ _. no-end, (λ _. no-end, (refused, (refused, (λ _. no-end, (λ _ _. refl, tt))))));
+  },
   (take 5 twoCuts, frameBytes 7 7 END (8 ∷ []), refl),
 )

@@ -41,5 +41,5 @@ pub record OfOneFile (file : List ℕ) (xs : List Exchange) : Type 0 where
 -- "then a completion reports that file, whole": at n, its length; and the buffer, which was b before that START, is b′, begins with the
 -- file and is otherwise as it was
 pub record Reports (file : List ℕ) (n : ℕ) (b b′ : List ℕ) : Type 0 where
-  pub whole : n ≡ length file
+  pub true-length : n ≡ length file
   pub bytes : b′ ≡ file ++ drop (length file) b

@@ -2,7 +2,7 @@
 from cases.making import changed, flipped, pattern, with_faults
 from crc import low_byte_first
 from printed import FRAMES
-from sm160 import END, QA, START, frame_bytes, frame_crc, of_one_file
+from sm160 import END, QA, START, frame_bytes, frame_crc, is_start, of_one_file
 from sm160 import receive as received
 
 WIDEST = 2 ** 64 - 1
@@ -180,29 +180,46 @@ def refused_at(rng, session, file, held, room):
         yield 30, piece(session, file, held + 1, min(len(file), held + 241))
 
 
+def strays(rng, session, file, place):
+    """Frames that a receiver with a file's bytes up to a place takes and that are not of the file: none; of another file a part that goes on, a START,
+    its beginning as a whole file; and the file's next byte with END, which is its last or comes too early."""
+    other, part = rng.randbytes(len(file)), rng.randrange(1, len(file))
+    return rng.choice((
+        [],
+        [frame_bytes(session, place, 0, other[place:place + 1])],
+        [frame_bytes(session, 0, START, other[:part][:240])],
+        [frame_bytes(session, 0, START | END, other[:part][:240])],
+        [frame_bytes(session, place, END, file[place:place + 1])]))
+
+
 def resumed(rng, session, file, place, first, second):
-    """W-212: a file cut by one largest part up to a place, refused frames of some kinds, and on from there, or from START again, by another."""
+    """A file cut by one largest part up to a place, refused frames of some kinds, and on from there by another, or, after strays, from START again."""
     room = len(file) + rng.randrange(4)
-    state, buffer = (session, True, 1), pattern(room, 0x31)
-    before, again = buffer, rng.choice((place, place, place, 0))
+    again = rng.choice((place, place, 0))
     refused = list(refused_at(rng, session, file, place, room))
     course = [(0, one) for one in cut(rng, session, file, first, 0, place)]
     course += rng.sample(refused, min(4, len(refused)))
-    course += [(0, one) for one in cut(rng, session, file, second, again)]
+    course += [(0, one) for one in ([] if again else strays(rng, session, file, place)) + cut(rng, session, file, second, again)]
     course.append((27, piece(session, file, len(file) - 1, len(file))))
-    reported = []
+    state, buffer = (session, True, 1), pattern(room, 0x31)
+    whole = of_it = False
     for number, one in course:
         yield [state[0], int(state[1]), state[2]], [one, buffer], number
-        refusal, answer, state, buffer = received(state, one, buffer)
-        assert refusal or of_one_file(file, one)
-        if answer and answer[0]:
-            reported.append(answer)
-            assert buffer == file + before[len(file):]
-    assert reported == [(True, len(file))]
+        refusal, answer, state, after = received(state, one, buffer)
+        if not refusal and is_start(one):
+            of_it, before = True, buffer
+        if not refusal:
+            of_it = of_it and of_one_file(file, one)
+        # W-212: it and every frame accepted since that START are of the file, and this one completes
+        if not refusal and of_it and answer[0]:
+            assert answer == (True, len(file)) and after == file + before[len(file):]
+            whole = True
+        buffer = after
+    assert whole
 
 
 def in_two_ways(rng):
-    """Files of 2 to 10 bytes, resumed at each place, and some with parts of real size."""
+    """W-212: files of 2 to 10 bytes, resumed at each place, and some with parts of real size."""
     for size in range(2, 11):
         for place in range(1, size):
             yield from resumed(rng, rng.choice((1, 0x0102, 0xFFFF)), rng.randbytes(size), place, rng.randint(1, 4), rng.randint(1, 4))
