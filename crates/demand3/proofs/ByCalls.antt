@@ -58,8 +58,8 @@ completed-by-calls session b xs τ n c w = completed session b xs τ n (steps se
 
 -- ---- one file, cut in two ways
 
--- A receiver stands anywhere, at σ, and calls with xs lead to τ. Where an accepted START is the first of these, it and every frame accepted
--- after it hold bytes of one file, and the last is answered with completion: it reports that file, whole.
+-- A receiver is at σ, whatever came before, and calls with frames lead to τ: first an accepted START, and all that are accepted are of one
+-- file. Where the last is answered with completion at n, it reports that file, whole.
 pub one-file-by-calls : (file : List ℕ) (σ : Side) (xs : List Exchange) (τ : Side) (n : ℕ)
     → Fed ByCall σ xs τ → OfOneFile file xs → EndsWith (Complete n) xs → Reports file n (σ .buffer) (τ .buffer)
 one-file-by-calls file σ xs τ n e h w = one-file file σ xs τ n (by-steps σ xs τ e) h w
@@ -70,7 +70,7 @@ one-file-by-calls file σ xs τ n e h w = one-file file σ xs τ n (by-steps σ 
 abbrev ref : {A : Type 0} → A → RefT A
 ref value = record { ptr = (0, 0); name = 0; now = value }
 
--- a step is a call that met its contract
+-- for each step there is a call that met its contract
 as-call : (σ : Side) (x : Exchange) (τ : Side) → ByStep σ x τ → ByCall σ x τ
 as-call σ x τ met =
     of-receive ([], ([], tt))

@@ -12,7 +12,7 @@ use lib.Seq.{sets, take-add, take-length}
 use Rattle.sm160_frame.specs.Layout.{offsetOf, partOf, isStart, isEnd}
 use Rattle.sm160_receiver.specs.Receiving.{reached, stateAfter}
 use Rattle.sm160_receiver.specs.declared.Answer.the-variants.{Complete}
-use Rattle.demand3.specs.Feeding.{Side, side, Exchange, exchange, EndsWith, Fed, ByStep}
+use Rattle.demand3.specs.Feeding.{Side, side, Exchange, EndsWith, Fed, ByStep}
 use Rattle.demand3.specs.Completion.{isRefused}
 use Rattle.demand3.specs.OneFile.{StandsIn, EndsOnlyWith, Accepted, StartFirst, EachAccepted, OfOneFile, Reports}
 use Rattle.demand3.proofs.Taking.{take-sets, drop-sets, Taken, IsTaken, either-way, taken-not, accepted-taken, reply-complete, some-part}
@@ -127,8 +127,8 @@ from-start file σ (x ∷ earlier) f n τ e h =
     let g = starts file σ x (e .0) (e .1) (h .start .0) (h .start .1) (h .stand .0) (h .end .0) in
     completes file (σ .buffer) (e .0) earlier f n τ (g .front) (g .rest) (e .2) (h .stand .1) (h .end .1)
 
--- A receiver is at σ, whatever came before, and is fed frames, of which the first is an accepted START and the accepted ones are of one file.
--- Where the last is answered with completion, it reports that file, whole.
+-- A receiver is at σ, whatever came before, and is fed frames that lead to τ: first an accepted START, and all that are accepted are of one file.
+-- Where the last is answered with completion at n, it reports that file, whole.
 pub one-file : (file : List ℕ) (σ : Side) (xs : List Exchange) (τ : Side) (n : ℕ)
     → Fed ByStep σ xs τ → OfOneFile file xs → EndsWith (Complete n) xs → Reports file n (σ .buffer) (τ .buffer)
 one-file file σ xs τ n e h w =

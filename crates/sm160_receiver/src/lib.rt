@@ -5,7 +5,7 @@
 // takes the START's offset off its offset, writes it again by its fields (`sm160_frame::write_frame`), and feeds that.
 //
 // After a time-out a controller may resume with another part size: the host goes on feeding. The count of the state is the place to resume
-// from (0: from START), and parts of any size are taken there; one from below it is refused with 29, one from above it with 30.
+// from (0: from START), and parts of any good size are taken there; one from below it is refused with 29, one from above it with 30.
 ghost use mathlib.Core.Path.{_≡_};
 ghost use Rattle.wire.specs.Refusal.{first};
 ghost use Rattle.sm160_receiver.specs.Receiving.{
