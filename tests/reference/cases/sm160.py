@@ -181,25 +181,23 @@ def refused_at(rng, session, file, held, room):
 
 
 def strays(rng, session, file, place):
-    """Frames that a receiver with a file's bytes up to a place takes and that are not of the file: none; of another file a part that goes on, a START,
-    its beginning as a whole file; and the file's next byte with END, which is its last or comes too early."""
+    """Of each kind what a receiver with a file's bytes up to a place, not up to its last, takes though it is not of the file: nothing; of another file a
+    part that goes on, a START, and its beginning as a whole file; and the file's next byte with END, which comes too early."""
     other, part = rng.randbytes(len(file)), rng.randrange(1, len(file))
-    return rng.choice((
-        [],
-        [frame_bytes(session, place, 0, other[place:place + 1])],
-        [frame_bytes(session, 0, START, other[:part][:240])],
-        [frame_bytes(session, 0, START | END, other[:part][:240])],
-        [frame_bytes(session, place, END, file[place:place + 1])]))
+    yield []
+    yield [frame_bytes(session, place, 0, bytes([file[place] ^ 0xFF]))]
+    yield [frame_bytes(session, 0, START, other[:part])]
+    yield [frame_bytes(session, 0, START | END, other[:part])]
+    yield [frame_bytes(session, place, END, file[place:place + 1])]
 
 
-def resumed(rng, session, file, place, first, second):
-    """A file cut by one largest part up to a place, refused frames of some kinds, and on from there by another, or, after strays, from START again."""
+def resumed(rng, session, file, place, first, second, stray=None):
+    """A file cut by one largest part up to a place, refused frames of some kinds, and on from there by another; or, after strays, from START again."""
     room = len(file) + rng.randrange(4)
-    again = rng.choice((place, place, 0))
     refused = list(refused_at(rng, session, file, place, room))
     course = [(0, one) for one in cut(rng, session, file, first, 0, place)]
     course += rng.sample(refused, min(4, len(refused)))
-    course += [(0, one) for one in ([] if again else strays(rng, session, file, place)) + cut(rng, session, file, second, again)]
+    course += [(0, one) for one in (stray or []) + cut(rng, session, file, second, place if stray is None else 0)]
     course.append((27, piece(session, file, len(file) - 1, len(file))))
     state, buffer = (session, True, 1), pattern(room, 0x31)
     whole = of_it = False
@@ -219,12 +217,19 @@ def resumed(rng, session, file, place, first, second):
 
 
 def in_two_ways(rng):
-    """W-212: files of 2 to 10 bytes, resumed at each place, and some with parts of real size."""
+    """W-212: files of 2 to 10 bytes, resumed at each place, and some with parts of real size; and from START again, after each kind of strays."""
+    def small(size, place, kind=None):
+        session, file, (first, second) = rng.choice((1, 0x0102, 0xFFFF)), rng.randbytes(size), rng.sample(range(1, 5), 2)
+        stray = None if kind is None else list(strays(rng, session, file, place))[kind]
+        return resumed(rng, session, file, place, first, second, stray)
     for size in range(2, 11):
         for place in range(1, size):
-            yield from resumed(rng, rng.choice((1, 0x0102, 0xFFFF)), rng.randbytes(size), place, rng.randint(1, 4), rng.randint(1, 4))
+            yield from small(size, place)
     for size, place, first, second in ((245, 136, 68, 240), (500, 240, 240, 68), (481, 480, 240, 239)):
         yield from resumed(rng, 2, rng.randbytes(size), place, first, second)
+    for size in range(3, 11):
+        for kind in range(5):
+            yield from small(size, rng.randrange(1, size - 1), kind)
 
 
 def receive(rng):
