@@ -7,7 +7,7 @@
 struct frame { uint8_t refused, function; uint16_t id; uint32_t address; size_t bytes; };
 struct rtu { uint8_t refused, address, function; };
 struct ascii { uint8_t refused, address, function; size_t length; };
-struct step { uint8_t refused; bool complete, under_way; uint16_t session; size_t reached, count; };
+struct step { uint8_t refused; bool complete, under_way; uint16_t session; size_t limit, reached, count; };
 struct date { uint8_t year, month, day, hour, minute, second; };
 struct difference { uint8_t refused; int64_t seconds; };
 struct fields { uint8_t refused, channel, year, month, day, hour, minute, second, kind; uint32_t address; uint64_t bits; };
@@ -26,8 +26,8 @@ struct ascii rattle_read_ascii(const uint8_t *chars, size_t n, uint8_t *out, siz
 struct ascii plain_read_ascii(const uint8_t *chars, size_t n, uint8_t *out, size_t room);
 uint8_t rattle_write_ascii(uint8_t address, uint8_t function, const uint8_t *data, size_t n, uint8_t *out, size_t room);
 uint8_t plain_write_ascii(uint8_t address, uint8_t function, const uint8_t *data, size_t n, uint8_t *out, size_t room);
-struct step rattle_receive(uint16_t session, bool under_way, size_t count, const uint8_t *frame, size_t n, uint8_t *buffer, size_t room);
-struct step plain_receive(uint16_t session, bool under_way, size_t count, const uint8_t *frame, size_t n, uint8_t *buffer, size_t room);
+struct step rattle_receive(uint16_t session, size_t limit, bool under_way, size_t count, const uint8_t *frame, size_t n, uint8_t *buffer, size_t room);
+struct step plain_receive(uint16_t session, size_t limit, bool under_way, size_t count, const uint8_t *frame, size_t n, uint8_t *buffer, size_t room);
 struct fields rattle_read_card(const uint8_t *bytes, size_t n);
 struct fields plain_read_card(const uint8_t *bytes, size_t n);
 uint8_t rattle_write_card(struct fields card, uint8_t *out, size_t room);

@@ -116,13 +116,13 @@ static void check_write_ascii(const uint8_t *data, size_t n, size_t room, unsign
     *good += !a;
 }
 
-static void check_receive(uint16_t session, bool under_way, size_t count, const uint8_t *p, size_t n, size_t room, unsigned *good)
+static void check_receive(uint16_t session, size_t limit, bool under_way, size_t count, const uint8_t *p, size_t n, size_t room, unsigned *good)
 {
     uint8_t one[1000], other[1000];
     memset(one, 0x5A, sizeof one), memset(other, 0x5A, sizeof other);
-    struct step a = rattle_receive(session, under_way, count, p, n, one, room), b = plain_receive(session, under_way, count, p, n, other, room);
-    if (a.refused != b.refused || a.complete != b.complete || a.under_way != b.under_way || a.session != b.session || a.reached != b.reached
-        || a.count != b.count || memcmp(one, other, sizeof one)) differ("receive");
+    struct step a = rattle_receive(session, limit, under_way, count, p, n, one, room), b = plain_receive(session, limit, under_way, count, p, n, other, room);
+    if (a.refused != b.refused || a.complete != b.complete || a.under_way != b.under_way || a.session != b.session || a.limit != b.limit
+        || a.reached != b.reached || a.count != b.count || memcmp(one, other, sizeof one)) differ("receive");
     *good += !a.refused;
 }
 
@@ -192,9 +192,9 @@ static int check(void)
         bool under_way = chance(9), held = chance(9);
         size_t room = 300 + chance(700);
         make_part(p, 7, offset, flags, size);
-        check_receive(chance(9) ? 7 : 8, under_way, held ? count : 0, p, 12 + size, room, &received);
+        check_receive(chance(9) ? 7 : 8, chance(9) ? 200 + chance(42) : size - chance(2), under_way, held ? count : 0, p, 12 + size, room, &received);
         damage(p, 12 + size);
-        check_receive(7, true, count, p, 12 + size - chance(2), 1000, &received);
+        check_receive(7, 240, true, count, p, 12 + size - chance(2), 1000, &received);
 
         struct date meter = make_date(), cabinet;
         cabinet = make_date();
@@ -284,7 +284,7 @@ int main(int argc, char **argv)
         while (reps--) sum += BOTH(write_ascii, 1, 3, p, (n - 9) / 2, buffer, n) + buffer[5];
     } else if (!strcmp(work, "receive")) {
         make_part(p, 7, 240, 0, n);
-        while (reps--) sum += BOTH(receive, 7, true, 240, p, 12 + n, buffer, sizeof buffer).count;
+        while (reps--) sum += BOTH(receive, 7, 240, true, 240, p, 12 + n, buffer, sizeof buffer).count;
     } else if (!strcmp(work, "clock")) {
         for (int i = 0; i < 401; i++) dates[i] = make_date();
         for (size_t r = 0; r < reps; r++)

@@ -180,10 +180,15 @@ def send(numbers, strings):
 
 
 def receive(numbers, strings):
-    session, under_way, count = numbers
-    refusal, answer, (session, under_way, count), buffer = sm160.receive((session, under_way != 0, count), *strings)
+    session, limit, under_way, count = numbers
+    refusal, answer, (session, limit, under_way, count), buffer = sm160.receive((session, limit, under_way != 0, count), *strings)
     words = told(refusal) if refusal else told(0, int(answer[0]), answer[1])
-    return words + [session, int(under_way), count, buffer]
+    return words + [session, limit, int(under_way), count, buffer]
+
+
+def open_receiver(numbers, strings):
+    refusal, state = sm160.open_receiver(*numbers)
+    return told(refusal, *map(int, state or ()))
 
 
 def write_card(numbers, strings):
@@ -230,6 +235,7 @@ ACTS = {
     41: ("SM160 write_frame", [23, 25, 16], writer(sm160.write_frame)),
     42: ("send", [32, 33, 34, 16], send),
     43: ("receive", [20, 21, 22, 23, 24, 25, 26, 27, 28, 29, 30, 31], receive),
+    44: ("open", [33], open_receiver),
     50: ("read_card", [50, 51, 52, 53, 54], reader(card.read_card)),
     51: ("write_card", [52, 53, 55, 16], write_card),
     52: ("put_line", [16], writer(card.put_line)),

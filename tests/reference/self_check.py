@@ -67,11 +67,11 @@ def printed_sessions():
             refusal, answer, state, buffer = sm160.receive(state, packet[8:], buffer)
             answers.append(refusal or answer)
         return answers, state, buffer
-    same("session 1 from opening", fed((1, False, 0), FRAMES[:2], bytes(400))[0], [25, 28])
-    same("session 2 from opening", fed((2, False, 0), FRAMES[2:], bytes(400))[0], [25, 25, 28, 27, 27, 27])
-    answers, state, buffer = fed((2, True, 141), FRAMES[5:], bytes(400))
+    same("session 1 from opening", fed((1, 68, False, 0), FRAMES[:2], bytes(400))[0], [25, 28])
+    same("session 2 from opening", fed((2, 68, False, 0), FRAMES[2:], bytes(400))[0], [25, 25, 28, 27, 27, 27])
+    answers, state, buffer = fed((2, 68, True, 141), FRAMES[5:], bytes(400))
     same("session 2 from 141", answers, [(False, 209), (False, 277), (True, 318)])
-    same("state after it", state, (2, False, 0))
+    same("state after it", state, (2, 68, False, 0))
     same("bytes after it", buffer, bytes(141) + b"".join(packet[20:] for packet in FRAMES[5:]) + bytes(400 - 318))
 
 
@@ -140,13 +140,13 @@ def edges():
     same("01's card written", card.write_card(1, 1, (0, 1, 1, 0, 0, 0), 2, 5, bytes(17)), (0, 17, CARD))
     part = bytes(range(68))
     for offset, due in ((141, 0), (73, 29), (142, 30)):
-        refusal, answer, _, buffer = sm160.receive((2, True, 141), sm160.frame_bytes(2, offset, 0, part), bytes(400))
+        refusal, answer, _, buffer = sm160.receive((2, 240, True, 141), sm160.frame_bytes(2, offset, 0, part), bytes(400))
         same(f"receiver at 141, offset {offset}", refusal, due)
         same(f"receiver at 141, offset {offset}", answer, None if due else (False, 209))
         same("bytes", buffer, bytes(400) if due else bytes(141) + part + bytes(400 - 209))
     frame = sm160.frame_bytes(2, 141, 0, part)
-    same("a part that fills the buffer", sm160.receive((2, True, 141), frame, bytes(209))[0:2], (0, (False, 209)))
-    same("one byte more", sm160.receive((2, True, 141), frame, bytes(208))[0], 31)
+    same("a part that fills the buffer", sm160.receive((2, 240, True, 141), frame, bytes(209))[0:2], (0, (False, 209)))
+    same("one byte more", sm160.receive((2, 240, True, 141), frame, bytes(208))[0], 31)
 
 
 def lister():
@@ -169,6 +169,19 @@ def on_its_way():
             _, state = pulsar_line.push(state, byte)
         same("told at silence", pulsar_line.silence(state)[1][1], lack)
     same("an unfit collector", pulsar_line.silence((bytes(255), 256)), (20, None))
+
+
+def agreed_part():
+    """02, W-211."""
+    for largest, due in ((0, (33, None)), (1, (0, (7, 1, False, 0))), (240, (0, (7, 240, False, 0))), (241, (33, None))):
+        same(f"opening with {largest}", sm160.open_receiver(7, largest), due)
+    start = sm160.frame_bytes(7, 0, 2, bytes(68))
+    damaged = sm160.frame_bytes(7, 0, 2, bytes(68))[:8] + bytes(2) + start[10:]
+    for limit, good, wrong in ((0, 20, 20), (67, 23, 23), (68, 0, 24), (240, 0, 24), (241, 20, 20)):
+        same(f"68 bytes with limit {limit}", sm160.receive((7, limit, False, 0), start, bytes(99))[0], good)
+        same(f"68 bytes with limit {limit}, CRC16 wrong", sm160.receive((7, limit, False, 0), damaged, bytes(99))[0], wrong)
+    whole = sm160.frame_bytes(7, 0, 6, bytes(5))
+    same("the limit after a completion", sm160.receive((7, 9, False, 0), whole, bytes(5)), (0, (True, 5), (7, 9, False, 0), bytes(5)))
 
 
 def collector():
@@ -199,7 +212,7 @@ def seconds():
 
 
 def check():
-    for one in (checksums, printed_frames, printed_sessions, modbus_examples, functions_of_003, ascii_lengths, edges, on_its_way, lister, collector, dates, seconds):
+    for one in (checksums, printed_frames, printed_sessions, modbus_examples, functions_of_003, ascii_lengths, edges, on_its_way, agreed_part, lister, collector, dates, seconds):
         one()
 
 

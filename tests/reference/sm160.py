@@ -52,19 +52,19 @@ def frame_crc(frame):
     return crc16(frame[:8] + bytes(2) + frame[10:], start=0x0000)
 
 
-def bad_part(of):
-    return len(of) == 0 or len(of) > LONGEST_PART
+def bad_part(of, limit=LONGEST_PART):
+    return len(of) == 0 or len(of) > limit
 
 
 def bad_flags(flags):
     return flags & ~(START | END) != 0
 
 
-def frame_rules(frame):
+def frame_rules(frame, limit=LONGEST_PART):
     return [
         (21, lambda: len(frame) < HEADER),
         (22, lambda: size_field(frame) != len(part(frame))),
-        (23, lambda: bad_part(part(frame))),
+        (23, lambda: bad_part(part(frame), limit)),
         (24, lambda: crc_field(frame) != frame_crc(frame)),
         (25, lambda: bad_flags(flags_field(frame))),
     ]
@@ -103,16 +103,21 @@ def send(file, session, largest, place, output):
     return refusal, length, after, output
 
 
+def open_receiver(session, largest):
+    """(number, the state or None): a session, the largest part, whether a file is under way, and the count held."""
+    return read([(33, lambda: largest not in range(1, LONGEST_PART + 1))], lambda: (session, largest, False, 0))
+
+
 def receive(state, frame, buffer):
     """(number, (complete, count or length) or None, the state and the buffer afterwards)."""
-    session, under_way, count = state
+    session, limit, under_way, count = state
 
     def place():
         return 0 if is_start(frame) else count
 
     refusal = first([
-        (20, lambda: count > len(buffer) or (under_way and count == 0) or (not under_way and count != 0)),
-    ] + frame_rules(frame) + [
+        (20, lambda: count > len(buffer) or (under_way and count == 0) or (not under_way and count != 0) or not 1 <= limit <= LONGEST_PART),
+    ] + frame_rules(frame, limit) + [
         (26, lambda: session_field(frame) != session),
         (27, lambda: not is_start(frame) and not under_way),
         (28, lambda: is_start(frame) and offset_field(frame) != 0),
@@ -125,8 +130,8 @@ def receive(state, frame, buffer):
     held = place() + len(part(frame))
     buffer = buffer[:place()] + part(frame) + buffer[held:]
     if is_end(frame):
-        return 0, (True, held), (session, False, 0), buffer
-    return 0, (False, held), (session, True, held), buffer
+        return 0, (True, held), (session, limit, False, 0), buffer
+    return 0, (False, held), (session, limit, True, held), buffer
 
 
 def of_one_file(file, frame):

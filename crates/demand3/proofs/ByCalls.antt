@@ -1,17 +1,23 @@
--- Demand 3 of calls: of each call of `open`, `receive`, `receive_lent` and `receive_plain` is used that it met its contract, and nothing else.
+-- Demand 3 of calls, and that the limit is kept: of each call of `open`, `receive`, `receive_lent` and `receive_plain` is used that it met its contract, and nothing else.
 -- Assumes nothing.
-use mathlib.Core.Path.{_≡_, refl, ap₂, subst}
+use mathlib.Core.Path.{_≡_, refl, sym, ap, ap₂, _∙_}
+use mathlib.Core.Bool.{false}
 use mathlib.Core.List.{List, [], _∷_}
-use Prim.Native.Nat.{ℕ}
+use Prim.Native.Nat.{ℕ, _≤_}
 use denote.Ref.{RefT}
-use Rattle.sm160_receiver.specs.Receiving.{opened, step, Took}
+use Rattle.wire.specs.Refusal.{pick}
+use Rattle.sm160_frame.specs.Reading.{LARGEST, badLargest}
+use Rattle.sm160_frame.proofs.Limit.{from-largest}
+use Rattle.sm160_receiver.specs.Receiving.{opened, opening, step, Took}
 use Rattle.sm160_receiver.specs.declared.Receiver.{Receiver}
+use Rattle.sm160_receiver.specs.declared.Opening.the-variants.{Ready}
 use Rattle.sm160_receiver.specs.declared.Answer.the-variants.{Complete}
-use Rattle.demand3.specs.Feeding.{Side, side, Exchange, exchange, framesOf, EndsWith, Fed, ByStep, newly, Steps}
+use Rattle.demand3.specs.Feeding.{Side, side, Exchange, exchange, framesOf, EndsWith, Fed, ByStep, Steps}
 use Rattle.demand3.specs.Calls.{ByOpen, of-open, ByCall, of-receive, of-receive-lent, of-receive-plain, Calls}
 use Rattle.demand3.specs.Arrival.{Item, all, Arrives, Delivered}
 use Rattle.demand3.specs.Completion.{acceptedFrames, sinceStart, HoldsFile}
 use Rattle.demand3.specs.OneFile.{OfOneFile, Reports}
+use Rattle.demand3.proofs.Taking.{keeps-next, opened-as}
 use Rattle.demand3.proofs.Delivery.{delivered}
 use Rattle.demand3.proofs.Completed.{completed}
 use Rattle.demand3.proofs.OneFile.{one-file}
@@ -27,24 +33,26 @@ unfolding Fed
 by-steps σ [] τ e = e
 by-steps σ (x ∷ xs) τ e = (e .0, by-step σ x (e .0) (e .1), by-steps (e .0) xs τ (e .2))
 
-opens : (session : ℕ) (s : Receiver) → ByOpen session s → s ≡ opened session
-opens _ _ (of-open κs a r e met) = met
+opens : (session limit : ℕ) (s : Receiver) → ByOpen session limit s → opening session limit ≡ Ready s
+opens _ _ _ (of-open κs a s e met) = sym met
 
-steps : (session : ℕ) (b : List ℕ) (xs : List Exchange) (τ : Side) → Calls session b xs τ → Steps session b xs τ
-steps session b xs τ c =
-    by-steps (newly session b) xs τ (subst (λ (s : Receiver). Fed ByCall (side s b) xs τ) (opens session (c .0) (c .1)) (c .2))
+pub opening-limit : (session limit : ℕ) (s : Receiver) → ByOpen session limit s → badLargest limit ≡ false
+opening-limit session limit s o = opened-as session limit s (opens session limit s o) .1
+
+steps : (session limit : ℕ) (b : List ℕ) (xs : List Exchange) (τ : Side) → Calls session limit b xs τ → Steps session limit b xs τ
+steps session limit b xs τ c = (c .0, opens session limit (c .0) (c .1), by-steps (side (c .0) b) xs τ (c .2))
 
 -- ---- the demand
 
--- Open a receiver for a session, lend it the buffer b and feed it any frames: it is at σ. Where a file then arrives among the items, and
--- calls with them lead to τ, it is delivered.
-pub delivered-by-calls : (session : ℕ) (b : List ℕ) (before : List Exchange) (σ : Side) (file : List ℕ) (is : List Item) (τ : Side)
-    → Calls session b before σ → Arrives session file b is → Fed ByCall σ (all is) τ
-    → Delivered Calls session file is σ τ
-delivered-by-calls session b before σ file is τ c a e =
-    let d = delivered session b before σ file is τ (steps session b before σ c) a (by-steps σ (all is) τ e) in
+-- Open a receiver for a session and a limit, lend it the buffer b and feed it any frames: it is at σ. Where a file then arrives among the
+-- items, and calls with them lead to τ, it is delivered.
+pub delivered-by-calls : (session limit : ℕ) (b : List ℕ) (before : List Exchange) (σ : Side) (file : List ℕ) (is : List Item) (τ : Side)
+    → Calls session limit b before σ → Arrives session limit file b is → Fed ByCall σ (all is) τ
+    → Delivered Calls session limit file is σ τ
+delivered-by-calls session limit b before σ file is τ c a e =
+    let d = delivered session limit b before σ file is τ (steps session limit b before σ c) a (by-steps σ (all is) τ e) in
     record {
-      as-new = λ b′ alone ρ fits new. d .as-new b′ alone ρ fits (steps session b′ alone ρ new);
+      as-new = λ b′ alone ρ fits new. d .as-new b′ alone ρ fits (steps session limit b′ alone ρ new);
       counted = d .counted;
       complete = d .complete;
       bytes = d .bytes;
@@ -52,9 +60,9 @@ delivered-by-calls session b before σ file is τ c a e =
 
 -- And whenever completion is reported, at n, to the last of the frames xs so far: the first n bytes of the buffer are the joined parts of
 -- the frames accepted from the last accepted START on, without gap or repeat.
-pub completed-by-calls : (session : ℕ) (b : List ℕ) (xs : List Exchange) (τ : Side) (n : ℕ)
-    → Calls session b xs τ → EndsWith (Complete n) xs → HoldsFile session n (τ .buffer) (sinceStart (acceptedFrames xs))
-completed-by-calls session b xs τ n c w = completed session b xs τ n (steps session b xs τ c) w
+pub completed-by-calls : (session limit : ℕ) (b : List ℕ) (xs : List Exchange) (τ : Side) (n : ℕ)
+    → Calls session limit b xs τ → EndsWith (Complete n) xs → HoldsFile session limit n (τ .buffer) (sinceStart (acceptedFrames xs))
+completed-by-calls session limit b xs τ n c w = completed session limit b xs τ n (steps session limit b xs τ c) w
 
 -- ---- one file, cut in two ways
 
@@ -63,6 +71,19 @@ completed-by-calls session b xs τ n c w = completed session b xs τ n (steps se
 pub one-file-by-calls : (file : List ℕ) (σ : Side) (xs : List Exchange) (τ : Side) (n : ℕ)
     → Fed ByCall σ xs τ → OfOneFile file xs → EndsWith (Complete n) xs → Reports file n (σ .buffer) (τ .buffer)
 one-file-by-calls file σ xs τ n e h w = one-file file σ xs τ n (by-steps σ xs τ e) h w
+
+-- ---- the limit is kept
+
+-- through any calls, whatever the state that they begin with: START, END, completion and refusals
+pub limit-kept : (σ : Side) (xs : List Exchange) (τ : Side) → Fed ByCall σ xs τ → τ .state .limit ≡ σ .state .limit
+unfolding Fed
+limit-kept σ [] τ e = ap (λ (ρ : Side). ρ .state .limit) e
+limit-kept σ (x ∷ xs) τ e = limit-kept (e .0) xs τ (e .2) ∙ keeps-next σ x (e .0) (by-step σ x (e .0) (e .1)) .limit
+
+-- so it is the largest part that opening took
+pub limit-agreed : (session limit : ℕ) (b : List ℕ) (xs : List Exchange) (τ : Side) → Calls session limit b xs τ → τ .state .limit ≡ limit
+limit-agreed session limit b xs τ c =
+    limit-kept (side (c .0) b) xs τ (c .2) ∙ ap (λ (s : Receiver). s .limit) (opened-as session limit (c .0) (opens session limit (c .0) (c .1)) .0)
 
 -- ---- and there are such calls, with any frames
 
@@ -100,11 +121,15 @@ fed-with σ (f ∷ fs) =
     let more = fed-with (one .1) fs in
     (one .0 ∷ more .0, more .1, (one .1, one .2, more .2), ap₂ (λ (g : List ℕ) (gs : List (List ℕ)). g ∷ gs) (one .3) (more .3))
 
--- a receiver can be opened
-pub from-opening : (session : ℕ) (b : List ℕ) (xs : List Exchange) (τ : Side) → Fed ByCall (newly session b) xs τ → Calls session b xs τ
-from-opening session b xs τ e = (opened session, of-open tt (session, tt) (opened session) (session, tt) refl, e)
+-- a receiver can be opened, with any limit from 1 to 240
+pub from-opening : (session limit : ℕ) (b : List ℕ) (xs : List Exchange) (τ : Side) → 1 ≤ limit → limit ≤ LARGEST
+    → Fed ByCall (side (opened session limit) b) xs τ → Calls session limit b xs τ
+unfolding opening pick
+from-opening session limit b xs τ least most e =
+    (opened session limit, of-open tt (session, (limit, tt)) (opened session limit) (session, (limit, tt)) (rw (from-largest limit least most) refl), e)
 
-pub calls-with : (session : ℕ) (b : List ℕ) (fs : List (List ℕ)) → (xs : List Exchange) × (τ : Side) × Calls session b xs τ × (framesOf xs ≡ fs)
-calls-with session b fs =
-    let fed = fed-with (newly session b) fs in
-    (fed .0, fed .1, from-opening session b (fed .0) (fed .1) (fed .2), fed .3)
+pub calls-with : (session limit : ℕ) (b : List ℕ) (fs : List (List ℕ)) → 1 ≤ limit → limit ≤ LARGEST
+    → (xs : List Exchange) × (τ : Side) × Calls session limit b xs τ × (framesOf xs ≡ fs)
+calls-with session limit b fs least most =
+    let fed = fed-with (side (opened session limit) b) fs in
+    (fed .0, fed .1, from-opening session limit b (fed .0) (fed .1) least most (fed .2), fed .3)

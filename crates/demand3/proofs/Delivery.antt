@@ -11,40 +11,41 @@ use lib.Seq.{sets}
 use Rattle.wire.specs.Numbers.{over}
 use Rattle.wire.proofs.Writing.{sets-append, sets-over}
 use Rattle.sm160_frame.specs.Layout.{partOf}
+use Rattle.sm160_frame.specs.Reading.{frameFault}
 use Rattle.sm160_frame.specs.Carried.{Carries, none, InTurn, joined, Carried}
 use Rattle.sm160_receiver.specs.Receiving.{opened, holding, reached, reply, stateAfter}
 use Rattle.sm160_receiver.specs.declared.Receiver.{Receiver}
 use Rattle.sm160_receiver.specs.declared.Answer.the-variants.{Held, Complete}
-use Rattle.demand3.specs.Feeding.{Side, Exchange, exchange, framesOf, EndsWith, Fed, ByStep, newly, Steps}
+use Rattle.demand3.specs.Feeding.{Side, side, Exchange, exchange, framesOf, EndsWith, Fed, ByStep, Steps}
 use Rattle.demand3.specs.Arrival.{Item, fileFrame, otherFrame, all, own, Arrives, counts, Delivered, fileFrames}
-use Rattle.demand3.proofs.Taking.{takes, unchanged, FitFor, fit-newly, fit-next, fit-fed}
+use Rattle.demand3.proofs.Taking.{takes, unchanged, FitFor, fit-opened, fit-next, fit-fed}
 
 -- ---- one frame of the file
 
 -- where a receiver stands as a part is to come: anywhere before the first, and at the part's place before another
-record Ready (session place : ℕ) (start : Bool) (σ : Side) : Type 0 where
+record Ready (session limit place : ℕ) (start : Bool) (σ : Side) : Type 0 where
   first : start ≡ true → place ≡ 0
-  later : start ≡ false → σ .state ≡ holding session place
+  later : start ≡ false → σ .state ≡ holding session limit place
 
 -- the part is put in its place, and answered with the bytes up to its end
-record Placed (session place : ℕ) (end : Bool) (σ : Side) (x : Exchange) (τ : Side) : Type 0 where
+record Placed (session limit place : ℕ) (end : Bool) (σ : Side) (x : Exchange) (τ : Side) : Type 0 where
   answered : x ≡ exchange (x .frame) (reply end (place + length (partOf (x .frame))))
-  goes-on : τ .state ≡ stateAfter end (opened session) (place + length (partOf (x .frame)))
+  goes-on : τ .state ≡ stateAfter end (opened session limit) (place + length (partOf (x .frame)))
   stored : τ .buffer ≡ sets (σ .buffer) place (partOf (x .frame))
 
-after : (end : Bool) (s : Receiver) (n : ℕ) → stateAfter end s n ≡ stateAfter end (opened (s .session)) n
+after : (end : Bool) (s : Receiver) (n : ℕ) → stateAfter end s n ≡ stateAfter end (opened (s .session) (s .limit)) n
 after true s n = refl
 after false s n = refl
 
-placed : (session m place : ℕ) (start end : Bool) (σ : Side) (x : Exchange) (τ : Side) → ByStep σ x τ → FitFor session m σ → Ready session place start σ
-    → Carries session place start end (x .frame) → place + length (partOf (x .frame)) ≤ m → Placed session place end σ x τ
+placed : (session limit m place : ℕ) (start end : Bool) (σ : Side) (x : Exchange) (τ : Side) → ByStep σ x τ → FitFor session limit m σ → Ready session limit place start σ
+    → Carries session limit place start end (x .frame) → place + length (partOf (x .frame)) ≤ m → Placed session limit place end σ x τ
 unfolding reached
-placed session m place start end σ x τ e i h g k =
+placed session limit m place start end σ x τ e i h g k =
     let p = partOf (x .frame) in
     let reach : reached (x .frame) ≡ place + length p = ap (λ (n : ℕ). n + length p) (g .placed) in
     let w = takes σ x τ e (record {
       fit = i .fit;
-      good = g .good;
+      good = subst (λ (n : ℕ). frameFault n (x .frame) ≡ 0) (sym (i .agreed)) (g .good);
       ours = g .ours ∙ sym (i .ours);
       going = λ q. ap (λ (s : Receiver). s .«under_way») (h .later (sym (g .starts) ∙ q));
       at-start = λ q. g .placed ∙ h .first (sym (g .starts) ∙ q);
@@ -57,7 +58,7 @@ placed session m place start end σ x τ e i h g k =
           ap (λ (ρ : Side). ρ .state) (w .lands)
           ∙ ap₂ (λ (b : Bool) (n : ℕ). stateAfter b (σ .state) n) (g .ends) reach
           ∙ after end (σ .state) (place + length p)
-          ∙ ap (λ (n : ℕ). stateAfter end (opened n) (place + length p)) (i .ours);
+          ∙ ap₂ (λ (n k : ℕ). stateAfter end (opened n k) (place + length p)) (i .ours) (i .agreed);
       stored = ap (λ (ρ : Side). ρ .buffer) (w .lands) ∙ ap (λ (n : ℕ). sets (σ .buffer) n p) (g .placed);
     }
 
@@ -66,35 +67,35 @@ record Given (place : ℕ) (σ : Side) (is : List Item) (τ : Side) : Type 0 whe
   counted : own is ≡ counts place (framesOf (own is))
   stored : τ .buffer ≡ sets (σ .buffer) place (joined (framesOf (own is)))
 
-arrival : (session m place : ℕ) (start : Bool) (σ : Side) (is : List Item) (τ : Side) → FitFor session m σ
-    → (none (framesOf (own is)) ≡ false → Ready session place start σ)
-    → InTurn session place start (framesOf (own is)) → place + length (joined (framesOf (own is))) ≤ m
+arrival : (session limit m place : ℕ) (start : Bool) (σ : Side) (is : List Item) (τ : Side) → FitFor session limit m σ
+    → (none (framesOf (own is)) ≡ false → Ready session limit place start σ)
+    → InTurn session limit place start (framesOf (own is)) → place + length (joined (framesOf (own is))) ≤ m
     → Fed ByStep σ (all is) τ → Given place σ is τ
 unfolding all own counts InTurn joined Fed
-arrival session m place start σ [] τ i h g k e = record { counted = refl; stored = ap (λ (ρ : Side). ρ .buffer) e }
-arrival session m place start σ (otherFrame f n ∷ is) τ i h g k e =
+arrival session limit m place start σ [] τ i h g k e = record { counted = refl; stored = ap (λ (ρ : Side). ρ .buffer) e }
+arrival session limit m place start σ (otherFrame f n ∷ is) τ i h g k e =
     let rest = subst (λ (ρ : Side). Fed ByStep ρ (all is) τ) (unchanged σ _ (e .0) n (e .1) refl) (e .2) in
-    let more = arrival session m place start σ is τ i h g k rest in
+    let more = arrival session limit m place start σ is τ i h g k rest in
     record { counted = more .counted; stored = more .stored }
-arrival session m place start σ (fileFrame x ∷ is) τ i h g k e =
+arrival session limit m place start σ (fileFrame x ∷ is) τ i h g k e =
     let p = partOf (x .frame) in
     let fs = framesOf (own is) in
     let ρ = e .0 in
     let n : length (p ++ joined fs) ≡ length p + length (joined fs) = length-append p (joined fs) in
-    let d = placed session m place start (none fs) σ x ρ (e .1) i (h refl) (g .0) (omega arith) in
-    let ready : none fs ≡ false → Ready session (place + length p) false ρ =
-    λ q. record { first = λ z. absurd (false≢true z); later = λ z. d .goes-on ∙ ap (λ (b : Bool). stateAfter b (opened session) (place + length p)) q } in
-    let more = arrival session m (place + length p) false ρ is τ (fit-next session m σ x ρ (e .1) i) ready (g .1) (omega arith) (e .2) in
+    let d = placed session limit m place start (none fs) σ x ρ (e .1) i (h refl) (g .0) (omega arith) in
+    let ready : none fs ≡ false → Ready session limit (place + length p) false ρ =
+    λ q. record { first = λ z. absurd (false≢true z); later = λ z. d .goes-on ∙ ap (λ (b : Bool). stateAfter b (opened session limit) (place + length p)) q } in
+    let more = arrival session limit m (place + length p) false ρ is τ (fit-next session limit m σ x ρ (e .1) i) ready (g .1) (omega arith) (e .2) in
     record {
       counted = ap₂ (λ (y : Exchange) (ys : List Exchange). y ∷ ys) (d .answered) (more .counted);
       stored = more .stored ∙ ap (λ (b : List ℕ). sets b (place + length p) (joined fs)) (d .stored) ∙ sets-append (σ .buffer) place p (joined fs);
     }
 
 -- the same of a whole file
-given : (session m : ℕ) (σ : Side) (file : List ℕ) (is : List Item) (τ : Side) → FitFor session m σ → Carried session file (framesOf (own is)) → length file ≤ m
+given : (session limit m : ℕ) (σ : Side) (file : List ℕ) (is : List Item) (τ : Side) → FitFor session limit m σ → Carried session limit file (framesOf (own is)) → length file ≤ m
     → Fed ByStep σ (all is) τ → Given 0 σ is τ
-given session m σ file is τ i c fits e =
-    arrival session m 0 true σ is τ i (λ q. record { first = λ z. refl; later = λ z. absurd (true≢false z) }) (c .turns) (omega (arith, ap length (c .whole))) e
+given session limit m σ file is τ i c fits e =
+    arrival session limit m 0 true σ is τ i (λ q. record { first = λ z. refl; later = λ z. absurd (true≢false z) }) (c .turns) (omega (arith, ap length (c .whole))) e
 
 -- ---- frames with nothing between them
 pub all-file : (xs : List Exchange) → all (fileFrames xs) ≡ xs
@@ -108,13 +109,13 @@ own-file [] = refl
 own-file (x ∷ xs) = ap (λ (l : List Exchange). x ∷ l) (own-file xs)
 
 -- at a newly opened receiver
-alone-counted : (session : ℕ) (file b : List ℕ) (alone : List Exchange) (ρ : Side) → Carried session file (framesOf alone) → length file ≤ length b
-    → Steps session b alone ρ → alone ≡ counts 0 (framesOf alone)
-alone-counted session file b alone ρ c fits s =
+alone-counted : (session limit : ℕ) (file b : List ℕ) (alone : List Exchange) (ρ : Side) → Carried session limit file (framesOf alone) → length file ≤ length b
+    → Steps session limit b alone ρ → alone ≡ counts 0 (framesOf alone)
+alone-counted session limit file b alone ρ c fits s =
     subst (λ (l : List Exchange). l ≡ counts 0 (framesOf l)) (own-file alone)
-    (given session (length b) (newly session b) file (fileFrames alone) ρ (fit-newly session b)
-    (subst (λ (l : List Exchange). Carried session file (framesOf l)) (sym (own-file alone)) c) fits
-    (subst (λ (l : List Exchange). Fed ByStep (newly session b) l ρ) (sym (all-file alone)) s) .counted)
+    (given session limit (length b) (side (s .0) b) file (fileFrames alone) ρ (fit-opened session limit (s .0) b (s .1))
+    (subst (λ (l : List Exchange). Carried session limit file (framesOf l)) (sym (own-file alone)) c) fits
+    (subst (λ (l : List Exchange). Fed ByStep (side (s .0) b) l ρ) (sym (all-file alone)) (s .2)) .counted)
 
 -- ---- the last answer
 counts-end : (place : ℕ) (f : List ℕ) (fs : List (List ℕ)) → EndsWith (Complete (place + length (joined (f ∷ fs)))) (counts place (f ∷ fs))
@@ -140,18 +141,18 @@ last-count (f ∷ fs) file e h = subst (λ (k : ℕ). EndsWith (Complete k) (cou
 -- ---- the demand
 
 -- A receiver is opened, lent b and fed any frames: it is at σ. Where a file then arrives among the items, and they lead to τ, it is delivered.
-pub delivered : (session : ℕ) (b : List ℕ) (before : List Exchange) (σ : Side) (file : List ℕ) (is : List Item) (τ : Side)
-    → Steps session b before σ → Arrives session file b is → Fed ByStep σ (all is) τ
-    → Delivered Steps session file is σ τ
+pub delivered : (session limit : ℕ) (b : List ℕ) (before : List Exchange) (σ : Side) (file : List ℕ) (is : List Item) (τ : Side)
+    → Steps session limit b before σ → Arrives session limit file b is → Fed ByStep σ (all is) τ
+    → Delivered Steps session limit file is σ τ
 unfolding over
-delivered session b before σ file is τ s a e =
-    let i : FitFor session (length b) σ = fit-fed session (length b) (newly session b) before σ s (fit-newly session b) in
-    let g = given session (length b) σ file is τ i (a .carried) (a .fits) e in
+delivered session limit b before σ file is τ s a e =
+    let i : FitFor session limit (length b) σ = fit-fed session limit (length b) (side (s .0) b) before σ (s .2) (fit-opened session limit (s .0) b (s .1)) in
+    let g = given session limit (length b) σ file is τ i (a .carried) (a .fits) e in
     record {
       as-new = λ d alone ρ fits new same.
           g .counted
           ∙ ap (counts 0) (sym same)
-          ∙ sym (alone-counted session file d alone ρ (subst (Carried session file) (sym same) (a .carried)) fits new);
+          ∙ sym (alone-counted session limit file d alone ρ (subst (Carried session limit file) (sym same) (a .carried)) fits new);
       counted = g .counted;
       complete = subst (EndsWith (Complete (length file))) (sym (g .counted)) (last-count (framesOf (own is)) file (a .carried .whole) (a .some));
       bytes = g .stored ∙ ap (sets (σ .buffer) 0) (a .carried .whole) ∙ sets-over (σ .buffer) file (omega (arith, a .fits, i .room));

@@ -10,12 +10,13 @@ use native.Mathlib.Omega.{arith}
 use lib.ListN.{length, take, drop, length-take, length-drop, take-append-drop}
 use lib.Seq.{sets, take-add, take-length}
 use Rattle.sm160_frame.specs.Layout.{offsetOf, partOf, isStart, isEnd}
+use Rattle.sm160_frame.proofs.Limit.{part-within}
 use Rattle.sm160_receiver.specs.Receiving.{reached, stateAfter}
 use Rattle.sm160_receiver.specs.declared.Answer.the-variants.{Complete}
 use Rattle.demand3.specs.Feeding.{Side, side, Exchange, EndsWith, Fed, ByStep}
 use Rattle.demand3.specs.Completion.{isRefused}
 use Rattle.demand3.specs.OneFile.{StandsIn, EndsOnlyWith, Accepted, StartFirst, EachAccepted, OfOneFile, Reports}
-use Rattle.demand3.proofs.Taking.{take-sets, drop-sets, Taken, IsTaken, either-way, taken-not, accepted-taken, reply-complete, some-part}
+use Rattle.demand3.proofs.Taking.{take-sets, drop-sets, Taken, IsTaken, either-way, taken-not, accepted-taken, reply-complete}
 use Rattle.demand3.proofs.Completed.{completing}
 
 -- bytes that stand in a file, one or more, end within it
@@ -56,7 +57,7 @@ module _ (file b : List ℕ) where
     unfolding reached
     stored-rest =
         drop-sets (σ .buffer) (offsetOf F) (partOf F) (w .able .room) (length file)
-        (within file (offsetOf F) (length (partOf F)) (ap length stands) (some-part F (w .able .good)))
+        (within file (offsetOf F) (length (partOf F)) (ap length stands) (part-within (σ .state .limit) F (w .able .good) .0))
         ∙ behind
 
     under-way : (end : Bool) → Front (side (stateAfter end (σ .state) (reached F)) Stored)

@@ -10,15 +10,19 @@ use borrow.Author.Tests.{ltb-false, eqb-true, eqb-false, not-true, not-false, le
 use lib.Dec.{eqb, ltb}
 use lib.ListN.{length, take, drop, length-append}
 use lib.Seq.{sets, length-sets, sets-eq, take-at, length-take-le, drop-append-add, drop-drop}
+use Rattle.wire.specs.Refusal.{first}
+use Rattle.wire.proofs.Answer.{accepted-as}
 use Rattle.wire.proofs.Bools.{or-neither}
 use Rattle.wire.proofs.Refusal.{first-none, none-first, none-append, none-both}
 use Rattle.sm160_frame.specs.Layout.{sessionOf, offsetOf, partOf, isStart, isEnd}
-use Rattle.sm160_frame.specs.Reading.{frameRules, frameFault}
-use Rattle.sm160_receiver.specs.Receiving.{opened, standing, reached, unfit, placeRules, receiveRules, refusal, reply, stateAfter, After, Took}
+use Rattle.sm160_frame.specs.Reading.{badLargest, frameRules, frameFault}
+use Rattle.sm160_frame.proofs.Limit.{part-within}
+use Rattle.sm160_receiver.specs.Receiving.{opened, openRules, opening, toldOpening, reached, unfit, placeRules, receiveRules, refusal, reply, stateAfter, After, Took}
 use Rattle.sm160_receiver.specs.declared.Receiver.{Receiver}
+use Rattle.sm160_receiver.specs.declared.Opening.the-variants.{Ready, Refused as Unopened}
 use Rattle.sm160_receiver.specs.declared.Answer.the-variants.{Complete, Refused}
 use Rattle.sm160_receiver.proofs.Steps.{step-refused, step-accepted}
-use Rattle.demand3.specs.Feeding.{Side, side, Exchange, Fed, ByStep, newly}
+use Rattle.demand3.specs.Feeding.{Side, side, Exchange, Fed, ByStep}
 use Rattle.demand3.specs.Completion.{isRefused}
 use Rattle.demand3.specs.OneFile.{Accepted}
 
@@ -52,7 +56,7 @@ and-no false b h = refl
 
 pub record Taken (σ : Side) (f : List ℕ) : Type 0 where
   pub fit : unfit (σ .state) (σ .buffer) ≡ false
-  pub good : frameFault f ≡ 0
+  pub good : frameFault (σ .state .limit) f ≡ 0
   pub ours : sessionOf f ≡ σ .state .session
   pub going : isStart f ≡ false → σ .state .«under_way» ≡ true
   pub at-start : isStart f ≡ true → offsetOf f ≡ 0
@@ -64,11 +68,11 @@ unfolding refusal frameFault
 taken-of σ f e =
     let s = σ .state in
     let h = none-first (receiveRules s (σ .buffer) f) tt e in
-    let both = none-append (frameRules f) (placeRules s (σ .buffer) f) (h .1) in
+    let both = none-append (frameRules (s .limit) f) (placeRules s (σ .buffer) f) (h .1) in
     let p = both .1 in
     record {
       fit = h .0;
-      good = first-none (frameRules f) (both .0);
+      good = first-none (frameRules (s .limit) f) (both .0);
       ours = eqb-true _ _ (not-false _ (p .0));
       going = λ q. not-false _ (rw q at (p .1 .0));
       at-start = λ q. eqb-true _ _ (not-false _ (rw q at (p .1 .1 .0)));
@@ -90,7 +94,7 @@ of-taken σ f t =
     let not-30 = and-no (not (isStart f)) (ltb (s .count) at) (λ q. let z = t .at-count (not-true _ q) in le-ltb (s .count) at (omega arith)) in
     first-none (receiveRules s (σ .buffer) f) (
       t .fit,
-      none-both (frameRules f) (placeRules s (σ .buffer) f) (none-first (frameRules f) tt (t .good))
+      none-both (frameRules (s .limit) f) (placeRules s (σ .buffer) f) (none-first (frameRules (s .limit) f) tt (t .good))
           (ap not (eq-eqb _ _ (t .ours)), (not-27, (not-28, (not-29, (not-30, (le-ltb _ _ (t .room), tt)))))),
     )
 
@@ -150,56 +154,74 @@ reply-complete false m n e = absurd (let z : _≡_ {A = ℕ} 0 1 = cc in omega a
 pub unchanged : (σ : Side) (x : Exchange) (τ : Side) (n : ℕ) → ByStep σ x τ → x .answer ≡ Refused n → τ ≡ σ
 unchanged σ x τ n e r = ⊎-elim (λ w. w .same) (λ w. absurd (false≢true (sym (taken-not σ x τ w) ∙ ap isRefused r))) (either-way σ x τ e)
 
--- ---- a receiver of a session that is fit for its buffer, of m bytes, stays so
-pub record FitFor (session m : ℕ) (σ : Side) : Type 0 where
+-- ---- what opening set is kept: a frame sets neither session nor limit
+pub record Keeps (σ τ : Side) : Type 0 where
+  pub session : τ .state .session ≡ σ .state .session
+  pub limit : τ .state .limit ≡ σ .state .limit
+
+keeps-after : (end : Bool) (s : Receiver) (n : ℕ) (b b′ : List ℕ) → Keeps (side s b) (side (stateAfter end s n) b′)
+keeps-after true s n b b′ = record { session = refl; limit = refl }
+keeps-after false s n b b′ = record { session = refl; limit = refl }
+
+pub keeps-next : (σ : Side) (x : Exchange) (τ : Side) → ByStep σ x τ → Keeps σ τ
+keeps-next σ x τ e =
+    ⊎-elim (λ w. subst (Keeps σ) (sym (w .same)) (record { session = refl; limit = refl }))
+    (λ w. subst (Keeps σ) (sym (w .lands)) (keeps-after (isEnd (x .frame)) (σ .state) (reached (x .frame)) _ _))
+    (either-way σ x τ e)
+
+-- ---- a receiver of a session and a limit that is fit for its buffer, of m bytes, stays so
+pub record FitFor (session limit m : ℕ) (σ : Side) : Type 0 where
   pub ours : σ .state .session ≡ session
+  pub agreed : σ .state .limit ≡ limit
+  pub good : badLargest limit ≡ false
   pub room : length (σ .buffer) ≡ m
   pub fit : unfit (σ .state) (σ .buffer) ≡ false
 
-fit-idle : (s : Receiver) (b : List ℕ) → unfit (standing s false 0) b ≡ false
+fit-after : (end : Bool) (s : Receiver) (n : ℕ) (b : List ℕ) → badLargest (s .limit) ≡ false → 0 < n → n ≤ length b → unfit (stateAfter end s n) b ≡ false
 unfolding unfit
-fit-idle s b = rw (le-ltb (length b) 0 (omega arith))
+fit-after true s n b l h k = simp (le-ltb (length b) 0 (omega arith)) l
+fit-after false s n b l h k = simp (le-ltb (length b) n k, ne-eqb n 0 (λ e. omega arith)) l
 
-fit-after : (end : Bool) (s : Receiver) (n : ℕ) (b : List ℕ) → 0 < n → n ≤ length b → unfit (stateAfter end s n) b ≡ false
+-- where `open` does not refuse
+pub opened-as : (session limit : ℕ) (s : Receiver) → opening session limit ≡ Ready s → (s ≡ opened session limit) × (badLargest limit ≡ false)
+unfolding opening
+opened-as session limit s e =
+    let ok = accepted-as Unopened (Ready (opened session limit)) (λ o. toldOpening o .number) (λ n. refl) (first (openRules limit)) (Ready s) e refl in
+    let same : Ready (opened session limit) ≡ Ready s = ok .1 in
+    ((cc), none-first (openRules limit) tt (ok .0) .0)
+
+pub fit-opened : (session limit : ℕ) (s : Receiver) (b : List ℕ) → opening session limit ≡ Ready s → FitFor session limit (length b) (side s b)
 unfolding unfit
-fit-after true s n b h k = fit-idle s b
-fit-after false s n b h k = simp (le-ltb (length b) n k, ne-eqb n 0 (λ e. omega arith))
-
-session-after : (end : Bool) (s : Receiver) (n : ℕ) → stateAfter end s n .session ≡ s .session
-session-after true s n = refl
-session-after false s n = refl
-
-pub fit-newly : (session : ℕ) (b : List ℕ) → FitFor session (length b) (newly session b)
-fit-newly session b = record { ours = refl; room = refl; fit = fit-idle (opened session) b }
+fit-opened session limit s b e =
+    let o = opened-as session limit s e in
+    subst (λ (r : Receiver). FitFor session limit (length b) (side r b)) (sym (o .0))
+    (record { ours = refl; agreed = refl; good = o .1; room = refl; fit = simp (le-ltb (length b) 0 (omega arith)) (o .1) })
 
 -- a good frame's part has a byte or more, so it reaches beyond 0
-pub some-part : (f : List ℕ) → frameFault f ≡ 0 → 0 < length (partOf f)
-unfolding frameFault
-some-part f e =
-    let g = none-first (frameRules f) tt e in
-    let some : length (partOf f) ≡ 0 → ⊥ = eqb-false _ _ (or-neither (eqb (length (partOf f)) 0) (ltb 240 (length (partOf f))) (g .1 .1 .0) .0) in
-    omega arith
-
-pub reaches : (f : List ℕ) → frameFault f ≡ 0 → 0 < reached f
+pub reaches : (limit : ℕ) (f : List ℕ) → frameFault limit f ≡ 0 → 0 < reached f
 unfolding reached
-reaches f e = omega (arith, some-part f e)
+reaches limit f e = omega (arith, part-within limit f e .0)
 
-fit-landed : (session m : ℕ) (σ : Side) (f : List ℕ) → FitFor session m σ → Taken σ f → FitFor session m (landed σ f)
-fit-landed session m σ f i t =
+fit-landed : (session limit m : ℕ) (σ : Side) (f : List ℕ) → FitFor session limit m σ → Taken σ f → FitFor session limit m (landed σ f)
+fit-landed session limit m σ f i t =
+    let s = σ .state in
+    let kept = keeps-after (isEnd f) s (reached f) (σ .buffer) (landed σ f .buffer) in
     let same = length-sets (σ .buffer) (offsetOf f) (partOf f) in
     record {
-      ours = session-after (isEnd f) (σ .state) (reached f) ∙ i .ours;
+      ours = kept .session ∙ i .ours;
+      agreed = kept .limit ∙ i .agreed;
+      good = i .good;
       room = same ∙ i .room;
-      fit = fit-after (isEnd f) (σ .state) (reached f) _ (reaches f (t .good)) (omega (arith, t .room, same));
+      fit = fit-after (isEnd f) s (reached f) _ (ap badLargest (i .agreed) ∙ i .good) (reaches (s .limit) f (t .good)) (omega (arith, t .room, same));
     }
 
-pub fit-next : (session m : ℕ) (σ : Side) (x : Exchange) (τ : Side) → ByStep σ x τ → FitFor session m σ → FitFor session m τ
-fit-next session m σ x τ e i =
-    ⊎-elim (λ w. subst (FitFor session m) (sym (w .same)) i)
-    (λ w. subst (FitFor session m) (sym (w .lands)) (fit-landed session m σ (x .frame) i (w .able)))
+pub fit-next : (session limit m : ℕ) (σ : Side) (x : Exchange) (τ : Side) → ByStep σ x τ → FitFor session limit m σ → FitFor session limit m τ
+fit-next session limit m σ x τ e i =
+    ⊎-elim (λ w. subst (FitFor session limit m) (sym (w .same)) i)
+    (λ w. subst (FitFor session limit m) (sym (w .lands)) (fit-landed session limit m σ (x .frame) i (w .able)))
     (either-way σ x τ e)
 
-pub fit-fed : (session m : ℕ) (σ : Side) (xs : List Exchange) (τ : Side) → Fed ByStep σ xs τ → FitFor session m σ → FitFor session m τ
+pub fit-fed : (session limit m : ℕ) (σ : Side) (xs : List Exchange) (τ : Side) → Fed ByStep σ xs τ → FitFor session limit m σ → FitFor session limit m τ
 unfolding Fed
-fit-fed session m σ [] τ e i = subst (FitFor session m) (sym e) i
-fit-fed session m σ (x ∷ xs) τ h i = fit-fed session m (h .0) xs τ (h .2) (fit-next session m σ x (h .0) (h .1) i)
+fit-fed session limit m σ [] τ e i = subst (FitFor session limit m) (sym e) i
+fit-fed session limit m σ (x ∷ xs) τ h i = fit-fed session limit m (h .0) xs τ (h .2) (fit-next session limit m σ x (h .0) (h .1) i)

@@ -29,15 +29,16 @@ own [] = []
 own (fileFrame x ∷ is) = x ∷ own is
 own (otherFrame f n ∷ is) = own is
 
--- The file arrives in the session, for a receiver that was lent the buffer b, among the items: so with only refused frames between.
-pub record Arrives (session : ℕ) (file b : List ℕ) (is : List Item) : Type 0 where
+-- The file arrives in the session, for a receiver that was opened with the limit and lent the buffer b, among the items: so with only refused
+-- frames between.
+pub record Arrives (session limit : ℕ) (file b : List ℕ) (is : List Item) : Type 0 where
   -- a file of 1 byte or more
   pub some : 1 ≤ length file
   -- fitting the buffer; that it fits the offset field is in `carried`, where each part's place is its frame's offset
   pub fits : length file ≤ length b
-  -- cut anywhere into parts of 1 to 240 bytes (no other part is good by 01, rule 23), in order, in frames good by 01 and of the session,
-  -- each with its part's place in the file as offset, START on the first only, END on the last only
-  pub carried : Carried session file (framesOf (own is))
+  -- cut anywhere into parts of 1 byte up to the limit (with it no other part is good, rule 23), in order, in frames good by 01 and of the
+  -- session, each with its part's place in the file as offset, START on the first only, END on the last only
+  pub carried : Carried session limit file (framesOf (own is))
 
 -- ---- and is delivered
 
@@ -48,11 +49,11 @@ counts place (f ∷ fs) =
     let held = place + length (partOf f) in
     exchange f (reply (none fs) held) ∷ counts held fs
 
--- The items came in from σ to τ. `FedNew session b xs ρ` is that a newly opened receiver is lent b and fed frames: `Steps` or `Calls`.
-pub record Delivered (FedNew : ℕ → List ℕ → List Exchange → Side → Type 0) (session : ℕ) (file : List ℕ) (is : List Item) (σ τ : Side) : Type 0 where
+-- The items came in from σ to τ. `FedNew session limit b xs ρ` is that a newly opened receiver is lent b and fed frames: `Steps` or `Calls`.
+pub record Delivered (FedNew : ℕ → ℕ → List ℕ → List Exchange → Side → Type 0) (session limit : ℕ) (file : List ℕ) (is : List Item) (σ τ : Side) : Type 0 where
   -- each of its frames is answered as by a newly opened receiver that gets these frames alone, with any buffer that the file fits
   pub as-new : (b : List ℕ) (alone : List Exchange) (ρ : Side) → length file ≤ length b
-      → FedNew session b alone ρ → framesOf alone ≡ framesOf (own is) → own is ≡ alone
+      → FedNew session limit b alone ρ → framesOf alone ≡ framesOf (own is) → own is ≡ alone
   -- which is with the bytes held so far
   pub counted : own is ≡ counts 0 (framesOf (own is))
   -- the file is reported complete at its last frame, at its true length

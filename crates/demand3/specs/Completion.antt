@@ -30,8 +30,8 @@ abbrev pub sinceStart : List (List ℕ) → List (List ℕ)
 sinceStart fs = keepFrom [] fs
 
 -- The first n bytes of the buffer b, one or more, are the joined parts of the frames, which carry them as a file is carried: without gap
--- or repeat, each part at its frame's offset, START on the first frame only, END on the last only.
-pub record HoldsFile (session n : ℕ) (b : List ℕ) (fs : List (List ℕ)) : Type 0 where
+-- or repeat, each part up to the limit and at its frame's offset, START on the first frame only, END on the last only.
+pub record HoldsFile (session limit n : ℕ) (b : List ℕ) (fs : List (List ℕ)) : Type 0 where
   pub some : 1 ≤ n
   pub count : n ≡ length (joined fs)
-  pub carried : Carried session (take n b) fs
+  pub carried : Carried session limit (take n b) fs

@@ -3,8 +3,9 @@
 use Prim.Native.Nat.{ℕ}
 use mathlib.Core.Path.{_≡_}
 use mathlib.Core.List.{List, [], _∷_, _++_}
-use Rattle.sm160_receiver.specs.Receiving.{opened, Took}
+use Rattle.sm160_receiver.specs.Receiving.{opening, Took}
 use Rattle.sm160_receiver.specs.declared.Receiver.{Receiver}
+use Rattle.sm160_receiver.specs.declared.Opening.the-variants.{Ready}
 use Rattle.sm160_receiver.specs.declared.Answer.{Answer}
 
 -- a receiver's state, and the buffer that it is lent
@@ -41,9 +42,6 @@ Fed One σ (x ∷ xs) τ = (ρ : Side) × One σ x ρ × Fed One ρ xs τ
 abbrev pub ByStep : Side → Exchange → Side → Type 0
 ByStep σ x τ = Took (σ .state) (x .frame) (σ .buffer) (x .answer) (τ .state) (τ .buffer)
 
-abbrev pub newly : ℕ → List ℕ → Side
-newly session b = side (opened session) b
-
--- a receiver is opened for a session, lent the buffer b, and fed frames
-abbrev pub Steps : ℕ → List ℕ → List Exchange → Side → Type 0
-Steps session b xs τ = Fed ByStep (newly session b) xs τ
+-- a receiver is opened for a session and a limit, lent the buffer b, and fed frames
+abbrev pub Steps : ℕ → ℕ → List ℕ → List Exchange → Side → Type 0
+Steps session limit b xs τ = (s : Receiver) × (opening session limit ≡ Ready s) × Fed ByStep (side s b) xs τ

@@ -1,10 +1,11 @@
 // The reply that document 001 prints in session 2, its four frames one after another on standard input, fed to a receiver: as it is printed,
-// with its offsets counted from its START as a host must count them, and from a receiver at 141; and the edges that are run. One line for
-// each answer, and after the completion the file that stands in the buffer.
+// with its offsets counted from its START as a host must count them, at a receiver that was opened with less, and from a receiver at 141; and
+// the edges that are run. One line for each answer, and after the completion the file that stands in the buffer.
 use libc::STDIN_FILENO;
 use libc::STDOUT_FILENO;
 use sm160_frame::FrameRead;
 use sm160_receiver::Answer;
+use sm160_receiver::Opening;
 use sm160_receiver::Receiver;
 use wire::Written;
 
@@ -103,6 +104,7 @@ fn turn_plain(state: Receiver, frame: &[u8], buffer: &mut [u8]) -> Receiver {
     let n = rebase(frame, 73, &mut out);
     let r = sm160_receiver::receive_plain(
         state.session,
+        state.limit,
         state.under_way,
         state.count,
         wire::front(&out, n),
@@ -113,9 +115,30 @@ fn turn_plain(state: Receiver, frame: &[u8], buffer: &mut [u8]) -> Receiver {
     r.state
 }
 
+// The largest part that the controller and its master agree on: 80 with the header of 12 bytes, and 68 without.
+const AGREED: usize = 68;
+
+// Where it is not opened, a state that each call refuses with 20.
+fn opened(largest: usize) -> Receiver {
+    let opening = sm160_receiver::open(2, largest);
+    match opening {
+        Opening::Ready(state) => state,
+        Opening::Refused(n) => {
+            say(b"refused ", n as u64);
+            Receiver {
+                session: 2,
+                limit: 0,
+                under_way: false,
+                count: 0,
+            }
+        }
+    }
+}
+
 fn at(count: usize) -> Receiver {
     Receiver {
         session: 2,
+        limit: AGREED,
         under_way: true,
         count,
     }
@@ -124,7 +147,7 @@ fn at(count: usize) -> Receiver {
 fn as_printed(first: &[u8], second: &[u8], third: &[u8], last: &[u8]) {
     line(b"as printed");
     let mut buffer = [0u8; 318];
-    let a = turn(sm160_receiver::open(2), first, &mut buffer);
+    let a = turn(opened(AGREED), first, &mut buffer);
     let b = turn(a, second, &mut buffer);
     let c = turn(b, third, &mut buffer);
     turn(c, last, &mut buffer);
@@ -133,13 +156,21 @@ fn as_printed(first: &[u8], second: &[u8], third: &[u8], last: &[u8]) {
 fn counted_from_start(first: &[u8], second: &[u8], third: &[u8], last: &[u8]) {
     line(b"counted from START, then the last again, then the first alone");
     let mut buffer = [0u8; 318];
-    let a = turn_rebased(sm160_receiver::open(2), first, &mut buffer);
+    let a = turn_rebased(opened(AGREED), first, &mut buffer);
     let b = turn_rebased(a, second, &mut buffer);
     let c = turn_rebased(b, third, &mut buffer);
     let d = turn_rebased(c, last, &mut buffer);
     show(wire::front(&buffer, 245));
     let e = turn_rebased(d, last, &mut buffer);
     turn_plain(e, first, &mut buffer);
+}
+
+fn above_the_limit(first: &[u8], last: &[u8]) {
+    line(b"at a receiver that was opened with 67, and at one with 241");
+    let mut buffer = [0u8; 318];
+    let a = turn_rebased(opened(AGREED - 1), first, &mut buffer);
+    turn_rebased(a, last, &mut buffer);
+    turn_rebased(opened(241), first, &mut buffer);
 }
 
 fn from_141(second: &[u8], third: &[u8], last: &[u8]) {
@@ -155,7 +186,7 @@ fn from_141(second: &[u8], third: &[u8], last: &[u8]) {
 fn start_again(first: &[u8], second: &[u8]) {
     line(b"START over a file under way, then a refused START, and the file goes on");
     let mut buffer = [0u8; 318];
-    let a = turn_rebased(sm160_receiver::open(2), first, &mut buffer);
+    let a = turn_rebased(opened(AGREED), first, &mut buffer);
     let b = turn_rebased(a, second, &mut buffer);
     let c = turn_rebased(b, first, &mut buffer);
     let d = turn(c, first, &mut buffer);
@@ -170,6 +201,7 @@ fn feed(reply: &[u8]) {
     let last = wire::rest(reply, 240);
     as_printed(first, second, third, last);
     counted_from_start(first, second, third, last);
+    above_the_limit(first, last);
     from_141(second, third, last);
     start_again(first, second);
 }

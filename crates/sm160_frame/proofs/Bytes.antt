@@ -19,7 +19,7 @@ use Rattle.wire.proofs.Numbers.{ofLe-le, le-bytes}
 use Rattle.wire.proofs.Fields.{field-take, number-again}
 use Rattle.sm160_frame.specs.Layout.{QA, has, crcDue, frameWith, frameBytes, sessionOf, offsetOf, sizeOf, crcOf, flagsOf, partOf}
 use Rattle.sm160_frame.specs.Reading.{badPart, badFlags, wrongSize, wrongCrc, tooShort, frameRules, frameFault}
-use Rattle.sm160_frame.proofs.Stores.{length-frame, small-part}
+use Rattle.sm160_frame.proofs.Stores.{length-frame}
 
 abbrev B : ℕ → Type 0
 B b = b < 256
@@ -89,17 +89,16 @@ module _ (session offset flags : ℕ) (p : List ℕ) where
       ap not (eq-eqb (crcOf F) (crcDue F) (made-crc small ∙ same))
 
   -- a frame made of good fields is good
-  pub made-good : Bytes p → badPart p ≡ false → badFlags flags ≡ false → frameFault F ≡ 0
+  pub made-good : (limit : ℕ) → length p < 65536 → Bytes p → badPart limit p ≡ false → badFlags flags ≡ false → frameFault limit F ≡ 0
   unfolding frameFault
-  made-good hp good-part good-flags =
-      let fits = small-part p good-part in
+  made-good limit fits hp good-part good-flags =
       let few = small-flags flags good-flags in
-      first-none (frameRules F) (
+      first-none (frameRules limit F) (
         right-length,
         (
-          right-size (omega arith),
+          right-size fits,
           (
-            ap badPart made-part ∙ good-part,
+            ap (badPart limit) made-part ∙ good-part,
             (
               right-crc hp,
               (ap badFlags (made-flags (omega arith)) ∙ good-flags, tt),
@@ -124,10 +123,10 @@ module _ (s : List ℕ) (bytes : Bytes s) where
       cc (number-again s 0 2 bytes, number-again s 2 4 bytes, number-again s 6 2 bytes, number-again s 8 2 bytes, number-again s 10 2 bytes, header-parts, whole long)
 
   -- where no rule of 21 to 25 holds, the bytes are those of the fields
-  pub read-bytes : frameFault s ≡ 0 → frameBytes (sessionOf s) (offsetOf s) (flagsOf s) (partOf s) ≡ s
+  pub read-bytes : (limit : ℕ) → frameFault limit s ≡ 0 → frameBytes (sessionOf s) (offsetOf s) (flagsOf s) (partOf s) ≡ s
   unfolding frameFault frameBytes
-  read-bytes e =
-      let h = none-first (frameRules s) tt e in
+  read-bytes limit e =
+      let h = none-first (frameRules limit s) tt e in
       let long : 12 ≤ length s = ltb-false (length s) 12 (h .0) in
       let size : sizeOf s ≡ length (partOf s) = eqb-true (sizeOf s) (length (partOf s)) (not-false (eqb (sizeOf s) (length (partOf s))) (h .1 .0)) in
       let same : crcOf s ≡ crcDue s = eqb-true (crcOf s) (crcDue s) (not-false (eqb (crcOf s) (crcDue s)) (h .1 .1 .1 .0)) in

@@ -1,4 +1,5 @@
 pub mod Stores
+pub mod Limit
 pub mod Bytes
 pub mod Order
 pub mod RoundTrip

@@ -9,13 +9,13 @@ use Rattle.wire.specs.declared.Written.{Written}
 use Rattle.wire.proofs.Answer.{answer-first}
 use Rattle.wire.proofs.Writes.{written-first}
 use Rattle.sm160_frame.specs.Layout.{frameBytes}
-use Rattle.sm160_frame.specs.Reading.{frameRules, frameFault, fieldsOf, readFrame, toldFrameRead}
+use Rattle.sm160_frame.specs.Reading.{LARGEST, frameRules, frameFault, fieldsOf, readFrame, toldFrameRead}
 use Rattle.sm160_frame.specs.Writing.{writeRules, WritesFrame}
 use Rattle.sm160_frame.specs.declared.FrameRead.the-variants.{Frame, Refused}
 
-pub frame-read-first : (s : List ℕ) → FirstInOrder (frameRules s) (toldFrameRead (readFrame s) .number)
+pub frame-read-first : (s : List ℕ) → FirstInOrder (frameRules LARGEST s) (toldFrameRead (readFrame s) .number)
 unfolding readFrame frameFault
-frame-read-first s = answer-first Refused (Frame (fieldsOf s)) (λ r. toldFrameRead r .number) (λ n. refl) (frameRules s) tt refl
+frame-read-first s = answer-first Refused (Frame (fieldsOf s)) (λ r. toldFrameRead r .number) (λ n. refl) (frameRules LARGEST s) tt refl
 
 pub frame-write-first : (session offset flags : ℕ) (part out : List ℕ) (r : Written) (out′ : List ℕ)
     → WritesFrame session offset flags part out r out′ → FirstInOrder (writeRules flags part out) (toldWritten r .number)

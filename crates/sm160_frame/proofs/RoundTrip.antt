@@ -16,11 +16,11 @@ use Rattle.wire.proofs.Answer.{answered-none, accepted-as}
 use Rattle.wire.proofs.Refusal.{first-none, none-first}
 use Rattle.wire.proofs.Writes.{wrote-front, wrote-all}
 use Rattle.sm160_frame.specs.Layout.{frameBytes, partOf}
-use Rattle.sm160_frame.specs.Reading.{badFlags, frameRules, frameFault, fieldsOf, readFrame, toldFrameRead}
+use Rattle.sm160_frame.specs.Reading.{LARGEST, badFlags, frameRules, frameFault, fieldsOf, readFrame, toldFrameRead}
 use Rattle.sm160_frame.specs.Writing.{writeRules, WritesFrame}
 use Rattle.sm160_frame.specs.declared.Fields.{Fields}
 use Rattle.sm160_frame.specs.declared.FrameRead.the-variants.{Frame, Refused}
-use Rattle.sm160_frame.proofs.Stores.{length-frame}
+use Rattle.sm160_frame.proofs.Stores.{length-frame, small-part}
 use Rattle.sm160_frame.proofs.Bytes.{small-flags, made-session, made-offset, made-flags, made-part, made-good, read-bytes}
 
 -- What is written reads back: where the writer of these fields answers a length, the bytes of that length are read as the same fields,
@@ -39,15 +39,15 @@ frame-reads-back session offset flags part out r out′ n hs ho hp w e =
     let eo = made-offset session offset flags part ho in
     let ef = made-flags session offset flags part (omega arith) in
     let fields : fieldsOf bs ≡ record { session = session; offset = offset; flags = flags } = cc in (
-      ap readFrame (done .1) ∙ answered-none Refused (Frame (fieldsOf bs)) (frameFault bs) (made-good session offset flags part hp (good .0) (good .1 .0)) ∙ ap Frame fields,
+      ap readFrame (done .1) ∙ answered-none Refused (Frame (fieldsOf bs)) (frameFault LARGEST bs) (made-good session offset flags part LARGEST (omega (arith, small-part LARGEST part (good .0))) hp (good .0) (good .1 .0)) ∙ ap Frame fields,
       ap partOf (done .1) ∙ made-part session offset flags part,
     )
 
 -- what reading has found where it answers fields
-accepted : (s : List ℕ) (f : Fields) → readFrame s ≡ Frame f → (frameFault s ≡ 0) × (fieldsOf s ≡ f)
+accepted : (s : List ℕ) (f : Fields) → readFrame s ≡ Frame f → (frameFault LARGEST s ≡ 0) × (fieldsOf s ≡ f)
 unfolding readFrame
 accepted s f e =
-    let ok = accepted-as Refused (Frame (fieldsOf s)) (λ r. toldFrameRead r .number) (λ n. refl) (frameFault s) (Frame f) e refl in
+    let ok = accepted-as Refused (Frame (fieldsOf s)) (λ r. toldFrameRead r .number) (λ n. refl) (frameFault LARGEST s) (Frame f) e refl in
     let same : Frame (fieldsOf s) ≡ Frame f = ok .1 in
     (ok .0, (cc))
 
@@ -57,9 +57,9 @@ pub frame-writes-again : (s out : List ℕ) (f : Fields) (r : Written) (out′ :
 unfolding frameFault
 frame-writes-again s out f r out′ bytes e room w =
     let ok = accepted s f e in
-    let h = none-first (frameRules s) tt (ok .0) in
+    let h = none-first (frameRules LARGEST s) tt (ok .0) in
     let bs = frameBytes (f .session) (f .offset) (f .flags) (partOf s) in
-    let same : bs ≡ s = subst (λ (g : Fields). frameBytes (g .session) (g .offset) (g .flags) (partOf s) ≡ s) (ok .1) (read-bytes s bytes (ok .0)) in
+    let same : bs ≡ s = subst (λ (g : Fields). frameBytes (g .session) (g .offset) (g .flags) (partOf s) ≡ s) (ok .1) (read-bytes s bytes LARGEST (ok .0)) in
     let flags : badFlags (f .flags) ≡ false = ap (λ (g : Fields). badFlags (g .flags)) (sym (ok .1)) ∙ h .1 .1 .1 .1 .0 in
     let long : length (partOf s) + 12 ≡ length s = sym (length-frame (f .session) (f .offset) (f .flags) (partOf s)) ∙ ap length same in
     let none = first-none (writeRules (f .flags) (partOf s) out) (h .1 .1 .0, (flags, (le-ltb (length out) (length (partOf s) + 12) (omega arith), tt))) in

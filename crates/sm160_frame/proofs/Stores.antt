@@ -57,5 +57,5 @@ module _ (session offset flags : ℕ) (p : List ℕ) where
       let fits : length bs ≤ length out = omega (arith, length-with 0) in
       ap (λ (l : List ℕ). sets l 8 (le 2 (crcDue bs))) (sets-over out bs fits) ∙ crc-stored (crcDue bs) out
 
-pub small-part : (p : List ℕ) → badPart p ≡ false → length p ≤ 240
-small-part p e = ltb-false 240 (length p) (or-neither (eqb (length p) 0) (ltb 240 (length p)) e .1)
+pub small-part : (limit : ℕ) (p : List ℕ) → badPart limit p ≡ false → length p ≤ limit
+small-part limit p e = ltb-false limit (length p) (or-neither (eqb (length p) 0) (ltb limit (length p)) e .1)

@@ -12,6 +12,7 @@ use Rattle.sm160_frame.proofs.offset_of.Reads as offset-of
 use Rattle.sm160_frame.proofs.part_of.Reads as part-of
 use Rattle.sm160_frame.proofs.is_start.Reads as is-start
 use Rattle.sm160_frame.proofs.is_end.Reads as is-end
+use Rattle.sm160_frame.proofs.bad_largest.Reads as bad-largest
 use Rattle.sm160_frame.proofs.frame_fault.Reads as frame-fault
 use Rattle.sm160_frame.proofs.read_frame.Reads as read-frame
 use Rattle.sm160_frame.proofs.write_frame.Reads as write-frame
@@ -30,6 +31,9 @@ is-start-unique κs a r r′ s s′ e e′ = e ∙ sym e′
 
 pub is-end-unique : Unique is-end.Post (λ κs r s. r)
 is-end-unique κs a r r′ s s′ e e′ = e ∙ sym e′
+
+pub bad-largest-unique : Unique bad-largest.Post (λ κs r s. r)
+bad-largest-unique κs a r r′ s s′ e e′ = e ∙ sym e′
 
 pub frame-fault-unique : Unique frame-fault.Post (λ κs r s. r)
 frame-fault-unique κs a r r′ s s′ e e′ = e ∙ sym e′

@@ -21,9 +21,17 @@ tooShort s = ltb (length s) 12
 abbrev pub wrongSize : List ℕ → Bool
 wrongSize s = not (eqb (sizeOf s) (length (partOf s)))
 
--- 23 part empty or above 240
-abbrev pub badPart : List ℕ → Bool
-badPart part = eqb (length part) 0 || ltb 240 (length part)
+-- the largest part of all: a frame's by its fields alone, and the largest that can be agreed on
+abbrev pub LARGEST : ℕ
+LARGEST = 240
+
+-- 33 sender: largest part not 1..240; on opening with another number
+abbrev pub badLargest : ℕ → Bool
+badLargest largest = eqb largest 0 || ltb LARGEST largest
+
+-- 23 part empty or above 240; at the receiver above the kept limit
+abbrev pub badPart : ℕ → List ℕ → Bool
+badPart limit part = eqb (length part) 0 || ltb limit (length part)
 
 -- 24 part's CRC16 differs
 abbrev pub wrongCrc : List ℕ → Bool
@@ -33,26 +41,27 @@ wrongCrc s = not (eqb (crcOf s) (crcDue s))
 abbrev pub badFlags : ℕ → Bool
 badFlags flags = has QA flags || ltb (QA + START + END) flags
 
--- "A frame is also read and written by its fields alone, under 16 and 21 to 25." "Order is by number"
-abbrev pub frameRules : List ℕ → List Rule
-frameRules s =
+-- "A frame is also read and written by its fields alone, under 16 and 21 to 25." "Order is by number": with a limit for the part, that is
+-- LARGEST by the fields alone, and at a receiver the one that it keeps
+abbrev pub frameRules : ℕ → List ℕ → List Rule
+frameRules limit s =
     21 when tooShort s
     ∷ 22 when wrongSize s
-    ∷ 23 when badPart (partOf s)
+    ∷ 23 when badPart limit (partOf s)
     ∷ 24 when wrongCrc s
     ∷ 25 when badFlags (flagsOf s)
     ∷ []
 
 -- the number of the first that holds, 0 for none
-unfoldable pub frameFault : List ℕ → ℕ
-frameFault s = first (frameRules s)
+unfoldable pub frameFault : ℕ → List ℕ → ℕ
+frameFault limit s = first (frameRules limit s)
 
 -- the fields that the bytes hold
 abbrev pub fieldsOf : List ℕ → Fields
 fieldsOf s = record { session = sessionOf s; offset = offsetOf s; flags = flagsOf s }
 
 unfoldable pub readFrame : List ℕ → FrameRead
-readFrame s = answered Refused (Frame (fieldsOf s)) (frameFault s)
+readFrame s = answered Refused (Frame (fieldsOf s)) (frameFault LARGEST s)
 
 abbrev pub toldFrameRead : FrameRead → Told
 toldFrameRead (Frame f) = accepted (f .session ∷ f .offset ∷ f .flags ∷ [])

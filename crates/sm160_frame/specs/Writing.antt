@@ -9,7 +9,7 @@ use Rattle.wire.specs.Refusal.{Rule, _when_, first}
 use Rattle.wire.specs.Writes.{Writes}
 use Rattle.wire.specs.declared.Written.{Written}
 use Rattle.sm160_frame.specs.Layout.{frameBytes}
-use Rattle.sm160_frame.specs.Reading.{badPart, badFlags}
+use Rattle.sm160_frame.specs.Reading.{LARGEST, badPart, badFlags}
 
 -- 16 output shorter than needed: 12 and the part
 abbrev pub noRoom : List ℕ → List ℕ → Bool
@@ -18,7 +18,7 @@ noRoom part out = ltb (length out) (length part + 12)
 -- "A frame is also read and written by its fields alone, under 16 and 21 to 25": faults of the fields, then 16
 abbrev pub writeRules : ℕ → List ℕ → List ℕ → List Rule
 writeRules flags part out =
-    23 when badPart part
+    23 when badPart LARGEST part
     ∷ 25 when badFlags flags
     ∷ 16 when noRoom part out
     ∷ []

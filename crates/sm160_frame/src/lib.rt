@@ -5,7 +5,7 @@ ghost use lib.ListN.{length};
 ghost use lib.Seq.{sets};
 ghost use Rattle.wire.specs.Numbers.{over};
 ghost use Rattle.sm160_frame.specs.Layout.{sessionOf, offsetOf, sizeOf, crcOf, crcDue, flagsOf, partOf, isStart, isEnd, frameWith, frameBytes};
-ghost use Rattle.sm160_frame.specs.Reading.{tooShort, wrongSize, badPart, wrongCrc, badFlags, frameFault, fieldsOf, readFrame};
+ghost use Rattle.sm160_frame.specs.Reading.{badLargest, tooShort, wrongSize, badPart, wrongCrc, badFlags, frameFault, fieldsOf, readFrame};
 ghost use Rattle.sm160_frame.specs.Writing.{WritesFrame};
 use wire::Written;
 
@@ -15,6 +15,9 @@ const QA: u16 = 1;
 pub const START: u16 = 2;
 
 pub const END: u16 = 4;
+
+// The largest part of all: a frame's by its fields alone, and the largest that can be agreed on.
+pub const LARGEST: usize = 240;
 
 // Part size and CRC16 are made where a frame is written and judged where it is read; the part is `part_of`.
 pub struct Fields {
@@ -87,6 +90,13 @@ fn crc_due(bytes: &[u8]) -> u16
     checksum::checksum_from(to_flags, wire::rest(bytes, 10))
 }
 
+// Whether a largest part is no number from 1 to 240.
+pub fn bad_largest(largest: usize) -> bool
+    ensures { λ r. ⌜ r ≡ badLargest largest ⌝ }
+{
+    (largest == 0) | (LARGEST < largest)
+}
+
 fn too_short(bytes: &[u8]) -> bool
     ensures { λ r. ⌜ r ≡ tooShort (now (bytes .entry)) ⌝ }
 {
@@ -99,10 +109,10 @@ fn wrong_size(bytes: &[u8]) -> bool
     size_of(bytes) as usize != part_of(bytes).len()
 }
 
-fn bad_part(part: &[u8]) -> bool
-    ensures { λ r. ⌜ r ≡ badPart (now (part .entry)) ⌝ }
+fn bad_part(part: &[u8], limit: usize) -> bool
+    ensures { λ r. ⌜ r ≡ badPart limit (now (part .entry)) ⌝ }
 {
-    (part.len() == 0) | (240 < part.len())
+    (part.len() == 0) | (limit < part.len())
 }
 
 fn wrong_crc(bytes: &[u8]) -> bool
@@ -117,10 +127,10 @@ fn bad_flags(flags: u16) -> bool
     (flags / QA % 2 == 1) | (QA + START + END < flags)
 }
 
-fn bad_part_in(bytes: &[u8]) -> bool
-    ensures { λ r. ⌜ r ≡ badPart (partOf (now (bytes .entry))) ⌝ }
+fn bad_part_in(bytes: &[u8], limit: usize) -> bool
+    ensures { λ r. ⌜ r ≡ badPart limit (partOf (now (bytes .entry))) ⌝ }
 {
-    bad_part(part_of(bytes))
+    bad_part(part_of(bytes), limit)
 }
 
 fn bad_flags_in(bytes: &[u8]) -> bool
@@ -129,9 +139,9 @@ fn bad_flags_in(bytes: &[u8]) -> bool
     bad_flags(flags_of(bytes))
 }
 
-// The number of the first rule of 21 to 25 that the frame breaks, 0 for none.
-pub fn frame_fault(bytes: &[u8]) -> u8
-    ensures { λ r. ⌜ r ≡ frameFault (now (bytes .entry)) ⌝ }
+// The number of the first rule of 21 to 25 that the frame breaks, with a limit for its part; 0 for none.
+pub fn frame_fault(bytes: &[u8], limit: usize) -> u8
+    ensures { λ r. ⌜ r ≡ frameFault limit (now (bytes .entry)) ⌝ }
 {
     if too_short(bytes) {
         return 21;
@@ -139,7 +149,7 @@ pub fn frame_fault(bytes: &[u8]) -> u8
     if wrong_size(bytes) {
         return 22;
     }
-    if bad_part_in(bytes) {
+    if bad_part_in(bytes, limit) {
         return 23;
     }
     if wrong_crc(bytes) {
@@ -164,7 +174,7 @@ fn fields_of(bytes: &[u8]) -> Fields
 pub fn read_frame(bytes: &[u8]) -> FrameRead
     ensures { λ r. ⌜ r ≡ readFrame (now (bytes .entry)) ⌝ }
 {
-    let fault = frame_fault(bytes);
+    let fault = frame_fault(bytes, LARGEST);
     if fault == 0 {
         FrameRead::Frame(fields_of(bytes))
     } else {
@@ -199,7 +209,7 @@ fn put_frame(session: u16, offset: u32, flags: u16, part: &[u8], out: &mut [u8])
 pub fn write_frame(session: u16, offset: u32, flags: u16, part: &[u8], out: &mut [u8]) -> Written
     ensures { λ r. ⌜ WritesFrame session offset flags (now (part .entry)) (now (out .entry)) r (now (out .exit)) ⌝ }
 {
-    if bad_part(part) {
+    if bad_part(part, LARGEST) {
         return Written::Refused(23);
     }
     if bad_flags(flags) {

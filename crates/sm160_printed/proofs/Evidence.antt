@@ -6,7 +6,7 @@ use Rattle.wire.specs.Numbers.{number, ofLe, field}
 use Rattle.wire.specs.Refusal.{pick}
 use Rattle.checksum.specs.Crc.{crcBits, crcFrom}
 use Rattle.sm160_frame.specs.Layout.{crcDue, flagsOf, partOf}
-use Rattle.sm160_frame.specs.Reading.{frameFault}
+use Rattle.sm160_frame.specs.Reading.{LARGEST, frameFault}
 use Rattle.sm160_printed.specs.Printed.{printed, agreeing, overPart, overFrame, ccittBits, ccittFrom, ccitt}
 
 -- all eight agree with the frame's rule
@@ -36,6 +36,6 @@ unfolding number ofLe field
 printed-flags = refl
 
 -- the master's are refused for QA, the controller's are good
-pub printed-faults : map frameFault printed ≡ 25 ∷ 0 ∷ 25 ∷ 25 ∷ 0 ∷ 0 ∷ 0 ∷ 0 ∷ []
+pub printed-faults : map (frameFault LARGEST) printed ≡ 25 ∷ 0 ∷ 25 ∷ 25 ∷ 0 ∷ 0 ∷ 0 ∷ 0 ∷ []
 unfolding number ofLe field crcBits crcFrom crcDue partOf frameFault pick
 printed-faults = refl

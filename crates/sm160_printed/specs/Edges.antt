@@ -1,4 +1,4 @@
--- 01's edge: a receiver of session 2 at 141, with 68 good bytes at offset 141, 73 and 142.
+-- 01's edge: a receiver of session 2 at 141, opened with 68 as its largest part, with 68 good bytes at offset 141, 73 and 142.
 -- Assumes nothing.
 use mathlib.Core.List.{List, [], _∷_}
 use Prim.Native.Nat.{ℕ}
@@ -14,7 +14,7 @@ broughtAt offset = frameBytes 2 offset 0 (partOf reply141)
 
 -- what the receiver, with a buffer of 318 bytes, tells to it
 abbrev pub at141 : ℕ → Told
-at141 offset = toldAnswer (step (holding 2 141) (broughtAt offset) (replicate 318 0) .answer)
+at141 offset = toldAnswer (step (holding 2 68 141) (broughtAt offset) (replicate 318 0) .answer)
 
 abbrev pub receiverEdges : List Edge
 receiverEdges =

@@ -18,20 +18,21 @@ use Rattle.sm160_receiver.specs.declared.Answer.{Answer}
 use Rattle.sm160_receiver.specs.declared.Answer.the-variants.{Refused}
 
 -- ---- the rules of the frame by itself, before others
-pub frame-found : (f : List ℕ) (rs : List Rule) (n : ℕ) → n ≡ frameFault f → (n ≡ 0 → ⊥) → n ≡ first (frameRules f ++ rs)
-unfolding frameFault
-frame-found f rs n e h = e ∙ sym (first-hits (frameRules f) rs (λ z. h (e ∙ z)))
+module _ (limit : ℕ) (f : List ℕ) (rs : List Rule) where
+  pub frame-found : (n : ℕ) → n ≡ frameFault limit f → (n ≡ 0 → ⊥) → n ≡ first (frameRules limit f ++ rs)
+  unfolding frameFault
+  frame-found n e h = e ∙ sym (first-hits (frameRules limit f) rs (λ z. h (e ∙ z)))
 
-pub frame-passed : (f : List ℕ) (rs : List Rule) (n k : ℕ) → n ≡ frameFault f → n ≡ 0 → k ≡ first rs → k ≡ first (frameRules f ++ rs)
-unfolding frameFault
-frame-passed f rs n k e z h = h ∙ sym (first-skips (frameRules f) rs (none-first (frameRules f) tt (sym e ∙ z)))
+  pub frame-passed : (n k : ℕ) → n ≡ frameFault limit f → n ≡ 0 → k ≡ first rs → k ≡ first (frameRules limit f ++ rs)
+  unfolding frameFault
+  frame-passed n k e z h = h ∙ sym (first-skips (frameRules limit f) rs (none-first (frameRules limit f) tt (sym e ∙ z)))
 
 module _ (s : Receiver) (f b : List ℕ) where
   -- ---- where no rule refuses, START stands at 0 and any other frame at the count
   module _ (none : refusal s b f ≡ 0) where
     places : NoneHolds (placeRules s b f)
     unfolding refusal
-    places = none-append (frameRules f) (placeRules s b f) (none-first (receiveRules s b f) tt none .1) .1
+    places = none-append (frameRules (s .limit) f) (placeRules s b f) (none-first (receiveRules s b f) tt none .1) .1
 
     pub start-at : isStart f ≡ true → 0 ≡ offsetOf f
     start-at q = sym (eqb-true _ _ (not-false _ (rw q at (places .1 .1 .0))))

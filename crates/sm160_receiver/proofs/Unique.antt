@@ -33,7 +33,7 @@ pub receive-unique : Unique {Y = λ κs. Received × List ℕ} receive.Post (λ 
 receive-unique κs a r r′ s s′ e e′ =
     ap (λ (o : After). (record { answer = o .answer; state = o .state }, o .buffer)) (once _ _ _ _ _ _ _ _ _ e e′)
 
-pub receive-plain-unique : Unique {Y = λ κs. Received × List ℕ} receive-plain.Post (λ κs r s. (r, now (s .1 .1 .1 .1 .0)))
+pub receive-plain-unique : Unique {Y = λ κs. Received × List ℕ} receive-plain.Post (λ κs r s. (r, now (s .1 .1 .1 .1 .1 .0)))
 receive-plain-unique κs a r r′ s s′ e e′ =
     ap (λ (o : After). (record { answer = o .answer; state = o .state }, o .buffer)) (once _ _ _ _ _ _ _ _ _ e e′)
 

@@ -2,7 +2,7 @@
 -- Assumes nothing.
 use Prim.Native.Nat.{ℕ, _+_}
 use mathlib.Core.Path.{_≡_}
-use mathlib.Core.Bool.{Bool, true, false, not, _||_, _&&_}
+use mathlib.Core.Bool.{Bool, true, false, cond, not, _||_, _&&_}
 use mathlib.Core.List.{List, [], _∷_, _++_}
 use lib.Dec.{ltb, eqb}
 use lib.ListN.{length}
@@ -11,30 +11,42 @@ use Rattle.wire.specs.Refusal.{Rule, _when_, first}
 use Rattle.wire.specs.Answer.{answered}
 use Rattle.wire.specs.Told.{Told, accepted, refused}
 use Rattle.sm160_frame.specs.Layout.{sessionOf, offsetOf, partOf, isStart, isEnd}
-use Rattle.sm160_frame.specs.Reading.{frameRules}
+use Rattle.sm160_frame.specs.Reading.{badLargest, frameRules}
 use Rattle.sm160_receiver.specs.declared.Receiver.{Receiver}
+use Rattle.sm160_receiver.specs.declared.Opening.{Opening}
+use Rattle.sm160_receiver.specs.declared.Opening.the-variants.{Ready, Refused as Unopened}
 use Rattle.sm160_receiver.specs.declared.Answer.{Answer}
 use Rattle.sm160_receiver.specs.declared.Answer.the-variants.{Held, Complete, Refused}
 
 -- "Opening sets count 0, nothing under way."
-abbrev pub opened : ℕ → Receiver
-opened session = record { session = session; «under_way» = false; count = 0 }
+abbrev pub opened : ℕ → ℕ → Receiver
+opened session largest = record { session = session; limit = largest; «under_way» = false; count = 0 }
 
--- "A receiver is a session, whether a file is under way, and the count held": s with these two, and all else of it stays
+-- "Refusals: 33 on opening with another number"
+abbrev pub openRules : ℕ → List Rule
+openRules largest = 33 when badLargest largest ∷ []
+
+-- "Opening takes the largest part, 1 to 240"
+unfoldable pub opening : ℕ → ℕ → Opening
+opening session largest = answered Unopened (Ready (opened session largest)) (first (openRules largest))
+
+-- "A receiver is a session, whether a file is under way, and the count held": s with these two, and all else of it stays; so "the receiver's
+-- state keeps it through every later call"
 abbrev pub standing : Receiver → Bool → ℕ → Receiver
-standing s underWay n = record { session = s .session; «under_way» = underWay; count = n }
+standing s underWay n = record { session = s .session; limit = s .limit; «under_way» = underWay; count = n }
 
 -- a file under way, of which n bytes are held
-abbrev pub holding : ℕ → ℕ → Receiver
-holding session n = standing (opened session) true n
+abbrev pub holding : ℕ → ℕ → ℕ → Receiver
+holding session limit n = standing (opened session limit) true n
 
 -- where a frame's part ends
 unfoldable pub reached : List ℕ → ℕ
 reached f = offsetOf f + length (partOf f)
 
--- 20 state unfit: receiver's count beyond the buffer, under way with 0, or idle with other than 0
+-- 20 state unfit: receiver's count beyond the buffer, under way with 0, or idle with other than 0, or its limit outside 1..240
 unfoldable pub unfit : Receiver → List ℕ → Bool
-unfit s b = ltb (length b) (s .count) || (s .«under_way» && eqb (s .count) 0) || (not (s .«under_way») && not (eqb (s .count) 0))
+unfit s b =
+    ltb (length b) (s .count) || (s .«under_way» && eqb (s .count) 0) || (not (s .«under_way») && not (eqb (s .count) 0)) || badLargest (s .limit)
 
 -- 26 other session
 abbrev pub otherSession : Receiver → List ℕ → Bool
@@ -60,7 +72,8 @@ aboveCount s f = not (isStart f) && ltb (s .count) (offsetOf f)
 abbrev pub beyondBuffer : List ℕ → List ℕ → Bool
 beyondBuffer b f = ltb (length b) (reached f)
 
--- "Order is by number", at a receiver s with the buffer b: 20, then 21 to 25 of the frame by itself, then 26 to 31
+-- "Order is by number", at a receiver s with the buffer b: 20, then 21 to 25 of the frame by itself, "23 for a part above the kept limit",
+-- then 26 to 31
 abbrev pub placeRules : Receiver → List ℕ → List ℕ → List Rule
 placeRules s b f =
     26 when otherSession s f
@@ -72,7 +85,7 @@ placeRules s b f =
     ∷ []
 
 abbrev pub receiveRules : Receiver → List ℕ → List ℕ → List Rule
-receiveRules s b f = 20 when unfit s b ∷ (frameRules f ++ placeRules s b f)
+receiveRules s b f = 20 when unfit s b ∷ (frameRules (s .limit) f ++ placeRules s b f)
 
 -- the number of the first that holds, 0 for none
 unfoldable pub refusal : Receiver → List ℕ → List ℕ → ℕ
@@ -119,6 +132,11 @@ step s f b = answered (λ n. refuse n s b) (accept s f b) (refusal s b f)
 -- promises of the answer, the state and the buffer
 unfoldable pub Took : Receiver → List ℕ → List ℕ → Answer → Receiver → List ℕ → Type 0
 Took s f b a s′ b′ = record { answer = a; state = s′; buffer = b′ } ≡ step s f b
+
+-- accepted with the four fields of the state
+abbrev pub toldOpening : Opening → Told
+toldOpening (Ready s) = accepted (s .session ∷ s .limit ∷ cond (s .«under_way») 1 0 ∷ s .count ∷ [])
+toldOpening (Unopened n) = refused n
 
 -- accepted with 0 and the count held, or with 1 and the length of the whole file
 abbrev pub toldAnswer : Answer → Told

@@ -4,12 +4,16 @@
 // with an offset other than 0 is refused with 28. So the host reads each reply frame by its fields (`sm160_frame::read_frame`, `part_of`),
 // takes the START's offset off its offset, writes it again by its fields (`sm160_frame::write_frame`), and feeds that.
 //
+// The limit that a receiver is opened with is that of the part, without the frame's header of 12 bytes. What 001's printed traffic agrees on is
+// 80 with the header: its parts have 68 bytes at most, and 68 is what the host opens with. Where nothing was agreed on, it opens with 240.
+//
 // After a time-out a controller may resume with another part size: the host goes on feeding. The count of the state is the place to resume
-// from (0: from START), and parts of any good size are taken there; one from below it is refused with 29, one from above it with 30.
+// from (0: from START), and parts of any size up to the limit are taken there; one from below it is refused with 29, one from above it with 30.
 ghost use mathlib.Core.Path.{_≡_};
 ghost use Rattle.wire.specs.Refusal.{first};
 ghost use Rattle.sm160_receiver.specs.Receiving.{
   opened,
+  opening,
   standing,
   reached,
   unfit,
@@ -27,11 +31,20 @@ ghost use Rattle.sm160_receiver.specs.Receiving.{
   Took,
 };
 
-// A session, whether a file is under way, and how many of its bytes are held. The count is as wide as a length, so that no sum wraps.
+// A session, the largest part that was agreed on, whether a file is under way, and how many of its bytes are held. The count is as wide as a
+// length, so that no sum wraps.
 pub struct Receiver {
     pub session: u16,
+    pub limit: usize,
     pub under_way: bool,
     pub count: usize,
+}
+
+pub enum Opening {
+    // The state to lend to the first call.
+    Ready(Receiver),
+    // The paper's number.
+    Refused(u8),
 }
 
 pub enum Answer {
@@ -48,14 +61,19 @@ pub struct Received {
     pub state: Receiver,
 }
 
-pub fn open(session: u16) -> Receiver
-    ensures { λ r. ⌜ r ≡ opened session ⌝ }
+// A receiver that takes parts of 1 byte up to the largest, from 1 to 240.
+pub fn open(session: u16, largest: usize) -> Opening
+    ensures { λ r. ⌜ r ≡ opening session largest ⌝ }
 {
-    Receiver {
+    if sm160_frame::bad_largest(largest) {
+        return Opening::Refused(33);
+    }
+    Opening::Ready(Receiver {
         session,
+        limit: largest,
         under_way: false,
         count: 0,
-    }
+    })
 }
 
 // Where the frame's part ends.
@@ -70,7 +88,10 @@ fn is_unfit(state: Receiver, buffer: &[u8]) -> bool
 {
     let n = state.count;
     let going = state.under_way;
-    (buffer.len() < n) | (going & (n == 0)) | (!going & (n != 0))
+    (buffer.len() < n)
+        | (going & (n == 0))
+        | (!going & (n != 0))
+        | sm160_frame::bad_largest(state.limit)
 }
 
 fn other_session(state: Receiver, frame: &[u8]) -> bool
@@ -141,7 +162,7 @@ fn fault(state: Receiver, buffer: &[u8], frame: &[u8]) -> u8
     if is_unfit(state, buffer) {
         return 20;
     }
-    let by_itself = sm160_frame::frame_fault(frame);
+    let by_itself = sm160_frame::frame_fault(frame, state.limit);
     if by_itself != 0 {
         return by_itself;
     }
@@ -222,15 +243,17 @@ pub fn receive_lent(state: &mut Receiver, frame: &[u8], buffer: &mut [u8]) -> An
 // One frame, at a receiver that is given by its plain fields.
 pub fn receive_plain(
     session: u16,
+    limit: usize,
     under_way: bool,
     count: usize,
     frame: &[u8],
     buffer: &mut [u8],
 ) -> Received
-    ensures { λ r. ⌜ Took (standing (opened session) «under_way» count) (now (frame .entry)) (now (buffer .entry)) (r .answer) (r .state) (now (buffer .exit)) ⌝ }
+    ensures { λ r. ⌜ Took (standing (opened session limit) «under_way» count) (now (frame .entry)) (now (buffer .entry)) (r .answer) (r .state) (now (buffer .exit)) ⌝ }
 {
     let mut state = Receiver {
         session,
+        limit,
         under_way,
         count,
     };

@@ -12,6 +12,7 @@ use Rattle.wire.specs.declared.Written.{Written}
 use Rattle.wire.proofs.Answer.{answers-refused, answers-accepted}
 use Rattle.wire.proofs.Refusal.{first-none, none-first}
 use Rattle.sm160_frame.specs.Layout.{frameBytes}
+use Rattle.sm160_frame.specs.Reading.{LARGEST}
 use Rattle.sm160_frame.specs.Writing.{writeRules}
 use Rattle.sm160_frame.proofs.Stores.{length-frame}
 use Rattle.sm160_sender.specs.Sending.{partAt, nextPlace, remainsAt, flagsFor, flagsAt, sentBytes, sendRules, Sends}
@@ -45,7 +46,7 @@ module _ (file : List ℕ) (session largest place : ℕ) (out : List ℕ) (numbe
     pub writable : first (writeRules (flagsAt file largest place) (partAt file largest place) out) ≡ 0
     writable =
         first-none (writeRules (flagsAt file largest place) (partAt file largest place) out)
-        (good-part file largest place may-send, (flagged (eqb place 0) (eqb (remainsAt file largest place) 0) .good, (rules .1 .1 .1 .0, tt)))
+        (good-part file largest place may-send LARGEST (may-send .most), (flagged (eqb place 0) (eqb (remainsAt file largest place) 0) .good, (rules .1 .1 .1 .0, tt)))
 
     pub sends-frame : (part : List ℕ) (remains flags : ℕ) (r : Written) (out′ : List ℕ)
         → part ≡ partAt file largest place → remains ≡ length file - (place + length part) → flags ≡ flagsFor (eqb place 0) (eqb remains 0)

@@ -8,28 +8,28 @@ use native.Mathlib.Nat.{min-le-left, min-le-right, le-min}
 use native.Mathlib.Omega.{arith}
 use lib.Dec.{ltb, eqb}
 use lib.ListN.{length, drop, length-take, length-drop}
-use borrow.Author.Tests.{ltb-false, leb-false, eqb-false, ne-eqb, le-ltb}
+use borrow.Author.Tests.{ltb-false, leb-false, ne-eqb, le-ltb}
 use Rattle.wire.proofs.Bools.{or-neither, neither-or}
 use Rattle.sm160_frame.specs.Layout.{START, END, has}
-use Rattle.sm160_frame.specs.Reading.{badPart, badFlags}
-use Rattle.sm160_sender.specs.Sending.{partAt, nextPlace, flagsFor, badFile, badLargest, pastEnd}
+use Rattle.sm160_frame.specs.Reading.{LARGEST, badLargest, badPart, badFlags}
+use Rattle.sm160_frame.proofs.Limit.{largest-from}
+use Rattle.sm160_sender.specs.Sending.{partAt, nextPlace, flagsFor, badFile, pastEnd}
 
 -- what the sender has found where it does not refuse by 32, 33 or 34
 pub record Sendable (file : List ℕ) (largest place : ℕ) : Type 0 where
   pub small : length file ≤ 4294967295
   pub least : 1 ≤ largest
-  pub most : largest ≤ 240
+  pub most : largest ≤ LARGEST
   pub inside : place < length file
 
 module _ (file : List ℕ) (largest place : ℕ) where
   pub sendable : badFile file ≡ false → badLargest largest ≡ false → pastEnd file place ≡ false → Sendable file largest place
   sendable a b c =
-      let l = or-neither (eqb largest 0) (ltb 240 largest) b in
-      let some = eqb-false largest 0 (l .0) in
+      let l = largest-from largest b in
       record {
         small = ltb-false 4294967295 (length file) (or-neither (eqb (length file) 0) (ltb 4294967295 (length file)) a .1);
-        least = omega (arith, some);
-        most = ltb-false 240 largest (l .1);
+        least = l .0;
+        most = l .1;
         inside = leb-false (length file) place c;
       }
 
@@ -42,11 +42,12 @@ module _ (file : List ℕ) (largest place : ℕ) where
       let right = min-le-right largest (length file - place) in
       (omega arith, omega arith, omega (arith, g .inside))
 
-  pub good-part : Sendable file largest place → badPart (partAt file largest place) ≡ false
-  good-part g =
+  -- with every limit that the largest part is within
+  pub good-part : Sendable file largest place → (limit : ℕ) → largest ≤ limit → badPart limit (partAt file largest place) ≡ false
+  good-part g limit h =
       let n = length-part g in
       let p = partAt file largest place in
-      neither-or (eqb (length p) 0) (ltb 240 (length p)) (ne-eqb (length p) 0 (λ z. omega (arith, n .0, z))) (le-ltb 240 (length p) (omega (arith, n .1, g .most)))
+      neither-or (eqb (length p) 0) (ltb limit (length p)) (ne-eqb (length p) 0 (λ z. omega (arith, n .0, z))) (le-ltb limit (length p) (omega (arith, n .1, h)))
 
 -- a frame's flags say START and END as they are to be, and nothing else
 pub record Flagged (start end : Bool) : Type 0 where

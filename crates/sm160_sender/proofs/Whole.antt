@@ -17,9 +17,10 @@ use Rattle.wire.proofs.Answer.{answered-none, accepted-as}
 use Rattle.wire.proofs.Each.{each-drop, each-take}
 use Rattle.wire.proofs.Refusal.{first-none, none-first}
 use Rattle.sm160_frame.specs.Layout.{START, END, has, partOf, isStart, isEnd}
+use Rattle.sm160_frame.specs.Reading.{badLargest}
 use Rattle.sm160_frame.specs.Carried.{Carries, none, InTurn, joined, Carried}
 use Rattle.sm160_frame.proofs.Bytes.{made-session, made-offset, made-flags, made-part, made-good}
-use Rattle.sm160_sender.specs.Sending.{partAt, nextPlace, remainsAt, flagsAt, sentBytes, badFile, badLargest, pastEnd, noRoom, sendRules, Sends, toldSent}
+use Rattle.sm160_sender.specs.Sending.{partAt, nextPlace, remainsAt, flagsAt, sentBytes, badFile, pastEnd, noRoom, sendRules, Sends, toldSent}
 use Rattle.sm160_sender.specs.Whole.{Call, SentInTurn, sentFrames}
 use Rattle.sm160_sender.specs.declared.Sent.the-variants.{Frame, Refused}
 use Rattle.sm160_sender.proofs.Parts.{Sendable, sendable, length-part, good-part, flagged}
@@ -58,7 +59,8 @@ module _ (file : List ℕ) (session largest : ℕ) where
         goes = ok .2;
       }
 
-  module _ (bytes : Bytes file) (fits : session < 65536) (place : ℕ) (g : Sendable file largest place) where
+  -- the largest part is within the limit that was agreed on
+  module _ (bytes : Bytes file) (fits : session < 65536) (limit : ℕ) (agreed : largest ≤ limit) (place : ℕ) (g : Sendable file largest place) where
     abbrev Part : List ℕ
     Part = partAt file largest place
 
@@ -69,7 +71,7 @@ module _ (file : List ℕ) (session largest : ℕ) where
     unfolding sentBytes
     sent-part = made-part session place (flagsAt file largest place) Part
 
-    sent-carries : Carries session place (eqb place 0) Last (sentBytes file session largest place)
+    sent-carries : Carries session limit place (eqb place 0) Last (sentBytes file session largest place)
     unfolding sentBytes isStart isEnd
     sent-carries =
         let flags = flagsAt file largest place in
@@ -77,7 +79,7 @@ module _ (file : List ℕ) (session largest : ℕ) where
         let part-bytes = each-take (λ b. b < 256) largest (drop place file) (each-drop (λ b. b < 256) place file bytes) in
         let ef = made-flags session place flags Part (omega (arith, said .few)) in
         record {
-          good = made-good session place flags Part part-bytes (good-part file largest place g) (said .good);
+          good = made-good session place flags Part limit (omega (arith, length-part file largest place g .1, g .most)) part-bytes (good-part file largest place g limit agreed) (said .good);
           ours = made-session session place flags Part fits;
           placed = made-offset session place flags Part (omega (arith, g .small, g .inside));
           starts = ap (has START) ef ∙ said .starts;
@@ -94,32 +96,32 @@ module _ (file : List ℕ) (session largest : ℕ) where
       let w = wrote place (c .lent) (c .size) (c .next) (c .after) (h .0) in
       ne-eqb (length file - place) 0 (λ e. omega (arith, w .able .inside, e))
 
-  module _ (bytes : Bytes file) (fits : session < 65536) where
+  module _ (bytes : Bytes file) (fits : session < 65536) (limit : ℕ) (agreed : largest ≤ limit) where
     from-place : (place : ℕ) (cs : List Call) → SentInTurn file session largest place cs
-        → (joined (sentFrames cs) ≡ drop place file) × InTurn session place (eqb place 0) (sentFrames cs)
+        → (joined (sentFrames cs) ≡ drop place file) × InTurn session limit place (eqb place 0) (sentFrames cs)
     unfolding SentInTurn sentFrames joined InTurn
     from-place place [] h = (sym (ap (λ (k : ℕ). drop k file) h ∙ drop-length file), tt)
     from-place place (c ∷ cs) h =
         let w = wrote place (c .lent) (c .size) (c .next) (c .after) (h .0) in
         let rest = from-place (c .next) cs (h .1) in
         let n = length-part file largest place (w .able) in
-        let part : partOf (take (c .size) (c .after)) ≡ partAt file largest place = ap partOf (w .frame) ∙ sent-part bytes fits place (w .able) in
+        let part : partOf (take (c .size) (c .after)) ≡ partAt file largest place = ap partOf (w .frame) ∙ sent-part bytes fits limit agreed place (w .able) in
         let later : eqb (c .next) 0 ≡ false = ne-eqb (c .next) 0 (λ e. omega (arith, w .goes, n .0, e)) in
         let last : eqb (remainsAt file largest place) 0 ≡ none (sentFrames cs) =
         ap (λ (k : ℕ). eqb (length file - k) 0) (sym (w .goes)) ∙ ends-last (c .next) cs (h .1) in
-        let here : Carries session place (eqb place 0) (none (sentFrames cs)) (take (c .size) (c .after)) =
-        subst (λ (f : List ℕ). Carries session place (eqb place 0) (none (sentFrames cs)) f) (sym (w .frame))
-        (subst (λ (b : Bool). Carries session place (eqb place 0) b (sentBytes file session largest place)) last (sent-carries bytes fits place (w .able))) in
+        let here : Carries session limit place (eqb place 0) (none (sentFrames cs)) (take (c .size) (c .after)) =
+        subst (λ (f : List ℕ). Carries session limit place (eqb place 0) (none (sentFrames cs)) f) (sym (w .frame))
+        (subst (λ (b : Bool). Carries session limit place (eqb place 0) b (sentBytes file session largest place)) last (sent-carries bytes fits limit agreed place (w .able))) in
         let next : c .next ≡ place + length (partOf (take (c .size) (c .after))) = w .goes ∙ ap (λ (p : List ℕ). place + length p) (sym part) in (
           ap₂ (λ (x y : List ℕ). x ++ y) part
               (rest .0 ∙ ap (λ (k : ℕ). drop k file) (w .goes) ∙ sym (drop-drop (length (partAt file largest place)) place file))
               ∙ take-then-drop largest (drop place file),
-          (here, subst (λ (k : ℕ). InTurn session k false (sentFrames cs)) next (subst (λ (b : Bool). InTurn session (c .next) b (sentFrames cs)) later (rest .1))),
+          (here, subst (λ (k : ℕ). InTurn session limit k false (sentFrames cs)) next (subst (λ (b : Bool). InTurn session limit (c .next) b (sentFrames cs)) later (rest .1))),
         )
 
-    -- Sent from place 0 on, by the answered places, the file is carried by the frames: they are good, their parts joined are the file, each
-    -- is for its place, START is on the first only and END on the last only.
-    pub sent : (cs : List Call) → SentInTurn file session largest 0 cs → Carried session file (sentFrames cs)
+    -- Sent from place 0 on, by the answered places, the file is carried by the frames: they are good, with parts up to the limit, their parts
+    -- joined are the file, each is for its place, START is on the first only and END on the last only.
+    pub sent : (cs : List Call) → SentInTurn file session largest 0 cs → Carried session limit file (sentFrames cs)
     sent cs h =
         let all = from-place 0 cs h in
         record { whole = all .0; turns = all .1 }

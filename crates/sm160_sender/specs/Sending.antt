@@ -11,6 +11,7 @@ use Rattle.wire.specs.Answer.{answered}
 use Rattle.wire.specs.Told.{Told, accepted, refused}
 use Rattle.wire.specs.Writes.{writeOutput}
 use Rattle.sm160_frame.specs.Layout.{START, END, frameBytes}
+use Rattle.sm160_frame.specs.Reading.{badLargest}
 use Rattle.sm160_sender.specs.declared.Sent.{Sent}
 use Rattle.sm160_sender.specs.declared.Sent.the-variants.{Frame, Refused}
 
@@ -39,10 +40,6 @@ sentBytes file session largest place = frameBytes session place (flagsAt file la
 -- 32 sender: file empty or above 4,294,967,295 bytes
 abbrev pub badFile : List ℕ → Bool
 badFile file = eqb (length file) 0 || ltb 4294967295 (length file)
-
--- 33 sender: largest part not 1..240
-abbrev pub badLargest : ℕ → Bool
-badLargest largest = eqb largest 0 || ltb 240 largest
 
 -- 34 sender: place at or past the end
 abbrev pub pastEnd : List ℕ → ℕ → Bool

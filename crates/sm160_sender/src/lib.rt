@@ -1,7 +1,7 @@
 // The sender of a file: one frame a call. The caller goes on at the answered place, until that is the file's end. What it answers is in specs/.
 ghost use mathlib.Core.Path.{_≡_};
 ghost use Rattle.wire.specs.Refusal.{first};
-ghost use Rattle.sm160_sender.specs.Sending.{partAt, flagsFor, badFile, badLargest, pastEnd, noRoom, sendRules, Sends};
+ghost use Rattle.sm160_sender.specs.Sending.{partAt, flagsFor, badFile, pastEnd, noRoom, sendRules, Sends};
 use sm160_frame::END;
 use sm160_frame::START;
 
@@ -16,12 +16,6 @@ fn bad_file(file: &[u8]) -> bool
     ensures { λ r. ⌜ r ≡ badFile (now (file .entry)) ⌝ }
 {
     (file.len() == 0) | (4_294_967_295 < file.len())
-}
-
-fn bad_largest(largest: usize) -> bool
-    ensures { λ r. ⌜ r ≡ badLargest largest ⌝ }
-{
-    (largest == 0) | (240 < largest)
 }
 
 fn past_end(file: &[u8], place: usize) -> bool
@@ -60,7 +54,7 @@ fn send_fault(file: &[u8], largest: usize, place: usize, room: usize) -> u8
     if bad_file(file) {
         return 32;
     }
-    if bad_largest(largest) {
+    if sm160_frame::bad_largest(largest) {
         return 33;
     }
     if past_end(file, place) {

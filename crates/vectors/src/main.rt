@@ -37,7 +37,7 @@ fn controller(act: u8, numbers: &[u8], bytes: &[u8], out: &mut [u8]) -> bool {
     match act {
         30..=35 => envelope::answer(act, numbers, bytes, out),
         40..=42 => files::answer(act, numbers, bytes, out),
-        43 => receiver::answer(numbers, bytes, out),
+        43..=44 => receiver::answer(act, numbers, bytes, out),
         _ => say::unknown(act),
     }
 }
@@ -48,7 +48,7 @@ fn answer(act: u8, numbers: &[u8], bytes: &[u8], out: &mut [u8]) -> bool {
         1..=3 | 9 | 61..=63 => ground::answer(act, numbers, bytes, out),
         4..=8 => readings::answer(act, numbers, bytes),
         10..=23 => pulsar(act, numbers, bytes, out),
-        30..=43 => controller(act, numbers, bytes, out),
+        30..=44 => controller(act, numbers, bytes, out),
         50..=52 => cards::answer(act, numbers, bytes, out),
         60 => clocks::answer(numbers),
         _ => say::unknown(act),

@@ -1,8 +1,8 @@
-"""Cases for SM160 frames, the sender and the receiver (acts 40 to 43)."""
+"""Cases for SM160 frames, the sender and the receiver (acts 40 to 44)."""
 from cases.making import changed, flipped, pattern, with_faults
 from crc import low_byte_first
 from printed import FRAMES
-from sm160 import END, QA, START, frame_bytes, frame_crc, is_start, of_one_file
+from sm160 import END, LONGEST_PART, QA, START, frame_bytes, frame_crc, is_start, of_one_file
 from sm160 import receive as received
 
 WIDEST = 2 ** 64 - 1
@@ -147,13 +147,13 @@ def transfers(rng):
     """Transfers frame by frame, each frame lent what the one before it left: two that go wrong, and then a clean one, which must arrive whole."""
     for _ in range(12):
         session, buffer = rng.choice((1, 0x0102, 0xFFFF)), pattern(rng.randint(20, 48), 0x31)
-        state = (session, False, 0)
+        state = (session, LONGEST_PART, False, 0)
         for clean in (False, False, True):
             file, other = (bytes(rng.randrange(256) for _ in range(rng.randint(1, len(buffer)))) for _ in range(2))
             before = buffer
             frames = cut(rng, session, file)
             for one in frames if clean else disturbed(rng, frames, cut(rng, rng.choice((session, 7)), other)):
-                yield [state[0], int(state[1]), state[2]], [one, buffer], None
+                yield list(map(int, state)), [one, buffer], None
                 _, answer, state, buffer = received(state, one, buffer)
             if clean:
                 assert answer == (True, len(file)) and buffer == file + before[len(file):]
@@ -199,10 +199,10 @@ def resumed(rng, session, file, place, first, second, stray=None):
     course += rng.sample(refused, min(4, len(refused)))
     course += [(0, one) for one in (stray or []) + cut(rng, session, file, second, place if stray is None else 0)]
     course.append((27, piece(session, file, len(file) - 1, len(file))))
-    state, buffer = (session, True, 1), pattern(room, 0x31)
+    state, buffer = (session, LONGEST_PART, True, 1), pattern(room, 0x31)
     whole = of_it = False
     for number, one in course:
-        yield [state[0], int(state[1]), state[2]], [one, buffer], number
+        yield list(map(int, state)), [one, buffer], number
         refusal, answer, state, after = received(state, one, buffer)
         if not refusal and is_start(one):
             of_it, before = True, buffer
@@ -232,12 +232,68 @@ def in_two_ways(rng):
             yield from small(size, rng.randrange(1, size - 1), kind)
 
 
+def limits(build, going, idle, order):
+    """W-211: a state's limit and a part, on both sides of each condition, and with each other number that can hold with 20 and 23 by the limit."""
+    bad = [(20, {"limit": limit}) for limit in (0, 241, 256 + 4, 2 ** 32 + 4, WIDEST)]
+    above = [(23, {"part": 5}), (23, {"part": 240})]
+    others = [fault for fault in FRAME_FAULTS if fault[0] != 23]
+    yield from with_faults(build, {**going, "limit": 4}, bad + above + others + [
+        (26, {"session": 0x0103}), (29, {"offset": 5}), (30, {"offset": 7}), (31, {"buffer": 9})], order)
+    yield from with_faults(build, {**idle, "limit": 4}, bad + above + others + [
+        (26, {"session": 0x0103}), (27, {"flags": 0}), (28, {"offset": 1}), (31, {"buffer": 3})], order)
+    for limit in (0, 1, 68, 239, 240, 241):
+        for part in sorted({1, max(1, limit - 1), limit, limit + 1}):
+            for crc in (0, 1):
+                due = 20 if limit in (0, 241) else 23 if not 1 <= part <= limit else 24 if crc else 0
+                for plan, end in ((going, 0), (going, END), (idle, 0), (idle, END)):
+                    yield *build({**plan, "limit": limit, "part": part, "crc": crc, "flags": plan["flags"] + end, "buffer": 260}), due
+
+
+def above_limit(session, file, limit, place=0):
+    """The frames of a file from a place on, cut into parts that are one byte longer than the limit, and the last a byte or more."""
+    return [piece(session, file, at, min(len(file), at + limit + 1)) for at in range(place, len(file), limit + 1)]
+
+
+def limited(rng, limit):
+    """W-211: a file in parts above the limit, from its start and over a stump, of which nothing is stored; then one that keeps to it arrives whole."""
+    session, size = rng.choice((1, 0x0102, 0xFFFF)), 2 * limit + 3
+    file, buffer = rng.randbytes(size), pattern(size + rng.randrange(4), 0x31)
+    state = (session, limit, False, 0)
+
+    def feed(frames, number):
+        nonlocal state, buffer
+        for one in frames:
+            yield list(map(int, state)), [one, buffer], number
+            refusal, answer, state, after = received(state, one, buffer)
+            assert state[:2] == (session, limit) and (refusal == 0 or after == buffer)
+            buffer, last = after, answer
+        return last
+
+    long = above_limit(session, file, limit)
+    yield from feed(long[:2], 23)
+    yield from feed(long[2:], 27)
+    for place in sorted({1, limit}):
+        stump = cut(rng, session, file, limit, 0, place)
+        yield from feed(stump, 0)
+        yield from feed([frame_bytes(session, place, flags, file[place:place + limit + 1]) for flags in (0, END)], 23)
+        before = buffer
+        last = yield from feed(cut(rng, session, file, limit), 0)
+        assert last == (True, size) and buffer == file + before[size:]
+        file = rng.randbytes(size)
+
+
+def opened(rng):
+    for session in (0, 1, 0x0102, 0xFFFF):
+        for largest in (0, 1, 2, 67, 68, 80, 239, 240, 241, 242, 255, 256, 257, 256 + 240, 65536 + 68, 2 ** 32 + 1, 2 ** 63, WIDEST):
+            yield [session, largest], [], 0 if 1 <= largest <= 240 else 33
+
+
 def receive(rng):
     yield from transfers(rng)
     def build(plan):
-        return ([plan["own session"], plan["under way"], plan["count"]],
+        return ([plan["own session"], plan["limit"], plan["under way"], plan["count"]],
                 [frame(plan), pattern(plan["buffer"], 0x31)])
-    going = {**GOOD, "own session": 0x0102, "under way": 1, "count": 6, "buffer": 20, "offset": 6, "flags": 0}
+    going = {**GOOD, "own session": 0x0102, "limit": LONGEST_PART, "under way": 1, "count": 6, "buffer": 20, "offset": 6, "flags": 0}
     idle = {**going, "under way": 0, "count": 0, "offset": 0, "flags": 2}
     order = list(range(20, 32))
     unfit = [
@@ -276,21 +332,24 @@ def receive(rng):
     for offset, due in ((141, 0), (73, 29), (142, 30)):
         yield *build({**going, "part": 68, "buffer": 400, "count": 141, "offset": offset}), due
     for count, packet in ((141, FRAMES[5]), (209, FRAMES[6]), (277, FRAMES[7])):
-        yield [2, 1, count], [packet[8:], pattern(320)], 0
-        yield [2, 1, count], [packet[8:], pattern(count + len(packet) - 20)], 0
-        yield [2, 1, count], [packet[8:], pattern(count + len(packet) - 21)], 31
+        yield [2, LONGEST_PART, 1, count], [packet[8:], pattern(320)], 0
+        yield [2, LONGEST_PART, 1, count], [packet[8:], pattern(count + len(packet) - 20)], 0
+        yield [2, LONGEST_PART, 1, count], [packet[8:], pattern(count + len(packet) - 21)], 31
     for packet, due in zip(FRAMES, (25, 28, 25, 25, 28, 27, 27, 27)):
-        yield [packet[8], 0, 0], [packet[8:], pattern(10)], due
-    yield [2, 1, 141], [FRAMES[4][8:], pattern(210)], 28
+        yield [packet[8], LONGEST_PART, 0, 0], [packet[8:], pattern(10)], due
+    yield [2, LONGEST_PART, 1, 141], [FRAMES[4][8:], pattern(210)], 28
     good = frame(going)
     for bit in range(0, 8 * len(good), 3):
-        yield [0x0102, 1, 6], [flipped(good, bit), pattern(20)], 22 if bit // 8 in (6, 7) else 24
+        yield [0x0102, LONGEST_PART, 1, 6], [flipped(good, bit), pattern(20)], 22 if bit // 8 in (6, 7) else 24
     for bit in range(0, 96, 2):
-        yield [0x0102, 1, 6], [crc_anew(flipped(good, bit)), pattern(20)], None
-    for state in ([0x0102, 0, 1], [0x0102, 1, 0], [0x0102, 1, 21]):
+        yield [0x0102, LONGEST_PART, 1, 6], [crc_anew(flipped(good, bit)), pattern(20)], None
+    for state in ([0x0102, LONGEST_PART, 0, 1], [0x0102, LONGEST_PART, 1, 0], [0x0102, LONGEST_PART, 1, 21]):
         yield state, [b"", pattern(20)], 20
         yield state, [frame(idle), pattern(20)], 20
     yield from in_two_ways(rng)
+    yield from limits(build, going, idle, order)
+    for limit in (1, 2, 5, 68, 239, 240):
+        yield from limited(rng, limit)
 
 
-CASES = {40: read_frame, 41: write_frame, 42: send, 43: receive}
+CASES = {40: read_frame, 41: write_frame, 42: send, 43: receive, 44: opened}

@@ -23,7 +23,7 @@ returns-3 c =
 put-frame-requires : tie.Need-put-frame-requires
 put-frame-requires c κs =
     let good = c .before .before .before .before in
-    (small-part (c .before .before .before .before .before .before .before .before .args .part .now) (sym (good .before .bad-part .ensures) ∙ good .if1 .left), search needs)
+    (small-part _ (c .before .before .before .before .before .before .before .before .args .part .now) (sym (good .before .bad-part .ensures) ∙ good .if1 .left), search needs)
 
 returns-4 : tie.Need-returns-4
 returns-4 c =

@@ -16,14 +16,14 @@ unfolding refusal
 returns-2 c =
     let a = c .before .before .before .before .before .before .args in
     skip _ _ _ _ _ (c .before .before .before .is-unfit .ensures) (c .before .before .if1 .left)
-    (frame-found (a .frame .now) (placeRules (a .state) (a .buffer .now) (a .frame .now)) _ (c .before .frame-fault .ensures) (c .if2 .taken))
+    (frame-found (a .state .limit) (a .frame .now) (placeRules (a .state) (a .buffer .now) (a .frame .now)) _ (c .before .frame-fault .ensures) (c .if2 .taken))
 
 returns-3 : tie.Need-returns-3
 unfolding refusal
 returns-3 c =
     let a = c .before .before .before .before .before .before .before .args in
     skip _ _ _ _ _ (c .before .before .before .before .is-unfit .ensures) (c .before .before .before .if1 .left)
-    (frame-passed (a .frame .now) (placeRules (a .state) (a .buffer .now) (a .frame .now)) _ _ (c .before .before .frame-fault .ensures) (c .before .if2 .left) (c .place-fault .ensures))
+    (frame-passed (a .state .limit) (a .frame .now) (placeRules (a .state) (a .buffer .now) (a .frame .now)) _ _ (c .before .before .frame-fault .ensures) (c .before .if2 .left) (c .place-fault .ensures))
 
 pub fault-spec : {M : Type 1} → statement M
 fault-spec =

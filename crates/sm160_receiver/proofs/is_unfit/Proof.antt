@@ -1,6 +1,7 @@
 -- `sm160_receiver::is_unfit` meets its contract.
 -- Assumes nothing.
 use Rattle.sm160_receiver.specs.Receiving.{unfit}
+use borrow.Author.Needs.{needs}
 use Rattle.sm160_receiver.proofs.is_unfit.Statement.{statement}
 use Rattle.sm160_receiver.proofs.is_unfit.Tie as tie
 
@@ -9,4 +10,4 @@ unfolding unfit
 returns c = cc
 
 pub is-unfit-spec : {M : Type 1} → statement M
-is-unfit-spec = tie.close (tie.spec returns)
+is-unfit-spec = tie.close (tie.spec (λ c κs. search needs) returns)
