@@ -29,8 +29,8 @@ own [] = []
 own (fileFrame x ∷ is) = x ∷ own is
 own (otherFrame f n ∷ is) = own is
 
--- The file arrives in the session, for a receiver that was opened with the limit and lent the buffer b, among the items: so with only refused
--- frames between.
+-- "Demand 3 then speaks of parts up to that limit": the file arrives in the session, for a receiver that was opened with the limit and lent the
+-- buffer b, among the items: so with only refused frames between.
 pub record Arrives (session limit : ℕ) (file b : List ℕ) (is : List Item) : Type 0 where
   -- a file of 1 byte or more
   pub some : 1 ≤ length file

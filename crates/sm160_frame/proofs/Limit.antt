@@ -24,8 +24,7 @@ pub from-largest : (largest : ℕ) → 1 ≤ largest → largest ≤ LARGEST →
 from-largest largest least most =
     neither-or (eqb largest 0) (ltb LARGEST largest) (ne-eqb largest 0 (λ e. omega arith)) (le-ltb LARGEST largest most)
 
--- ---- a good frame's part has a byte or more and is within the limit, and the frame is good with every limit that its part is within. So with
--- a limit up to 240 it is good exactly where it is good by its fields alone and its part is within the limit.
+-- ---- a good frame's part has a byte or more and is within the limit, and the frame is good with every limit that its part is within
 module _ (limit : ℕ) (f : List ℕ) (good : frameFault limit f ≡ 0) where
   pub part-within : (1 ≤ length (partOf f)) × (length (partOf f) ≤ limit)
   unfolding frameFault
@@ -42,3 +41,12 @@ module _ (limit : ℕ) (f : List ℕ) (good : frameFault limit f ≡ 0) where
       let h = none-first (frameRules limit f) tt good in
       let some = or-neither (eqb n 0) (ltb limit n) (h .1 .1 .0) .0 in
       first-none (frameRules other f) (h .0, (h .1 .0, (neither-or (eqb n 0) (ltb other n) some (le-ltb other n k), h .1 .1 .1)))
+
+-- So a frame is good with a limit up to 240 exactly where it is good by its fields alone and its part is within the limit.
+pub good-with-limit : (limit : ℕ) (f : List ℕ) → limit ≤ LARGEST
+    → (frameFault limit f ≡ 0 → (frameFault LARGEST f ≡ 0) × (length (partOf f) ≤ limit))
+    × (frameFault LARGEST f ≡ 0 → length (partOf f) ≤ limit → frameFault limit f ≡ 0)
+good-with-limit limit f most = (
+  λ e. let within = part-within limit f e .1 in (good-within limit f e LARGEST (omega (arith, within)), within),
+  λ e within. good-within LARGEST f e limit within,
+)

@@ -41,7 +41,7 @@ pub struct Receiver {
 }
 
 pub enum Opening {
-    // The state to lend to the first call.
+    // The state for the first call.
     Ready(Receiver),
     // The paper's number.
     Refused(u8),
