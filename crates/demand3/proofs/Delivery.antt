@@ -20,82 +20,83 @@ use Rattle.demand3.specs.Feeding.{Side, side, Exchange, exchange, frames
 use Rattle.demand3.specs.Arrival.{Item, fileFrame, otherFrame, all, own, Arrives, counts, Delivered, fileFrames}
 use Rattle.demand3.proofs.Taking.{takes, unchanged, FitFor, fit-opened, fit-next, fit-fed}
 
--- ---- one frame of the file
-
--- where a receiver stands as a part is to come: anywhere before the first, and at the part's place before another
-record Ready (session limit place : ℕ) (start : Bool) (σ : Side) : Type 0 where
-  first : start ≡ true → place ≡ 0
-  later : start ≡ false → σ .state ≡ holding session limit place
-
--- the part is put in its place, and answered with the bytes up to its end
-record Placed (session limit place : ℕ) (end : Bool) (σ : Side) (x : Exchange) (τ : Side) : Type 0 where
-  answered : x ≡ exchange (x .frame) (reply end (place + length (partOf (x .frame))))
-  goes-on : τ .state ≡ stateAfter end (opened session limit) (place + length (partOf (x .frame)))
-  stored : τ .buffer ≡ sets (σ .buffer) place (partOf (x .frame))
-
+-- what a frame does not set is as it was opened
 after : (end : Bool) (s : Receiver) (n : ℕ) → stateAfter end s n ≡ stateAfter end (opened (s .session) (s .limit)) n
 after true s n = refl
 after false s n = refl
 
-placed : (session limit m place : ℕ) (start end : Bool) (σ : Side) (x : Exchange) (τ : Side) → ByStep σ x τ → FitFor session limit m σ → Ready session limit place start σ
-    → Carries session limit place start end (x .frame) → place + length (partOf (x .frame)) ≤ m → Placed session limit place end σ x τ
-unfolding reached
-placed session limit m place start end σ x τ e i h g k =
-    let p = partOf (x .frame) in
-    let reach : reached (x .frame) ≡ place + length p = ap (λ (n : ℕ). n + length p) (g .placed) in
-    let w = takes σ x τ e (record {
-      fit = i .fit;
-      good = subst (λ (n : ℕ). frameFault n (x .frame) ≡ 0) (sym (i .agreed)) (g .good);
-      ours = g .ours ∙ sym (i .ours);
-      going = λ q. ap (λ (s : Receiver). s .«under_way») (h .later (sym (g .starts) ∙ q));
-      at-start = λ q. g .placed ∙ h .first (sym (g .starts) ∙ q);
-      at-count = λ q. g .placed ∙ sym (ap (λ (s : Receiver). s .count) (h .later (sym (g .starts) ∙ q)));
-      room = omega (arith, reach, i .room);
-    }) in
-    record {
-      answered = ap (exchange (x .frame)) (w .answered ∙ ap₂ reply (g .ends) reach);
-      goes-on =
-          ap (λ (ρ : Side). ρ .state) (w .lands)
-          ∙ ap₂ (λ (b : Bool) (n : ℕ). stateAfter b (σ .state) n) (g .ends) reach
-          ∙ after end (σ .state) (place + length p)
-          ∙ ap₂ (λ (n k : ℕ). stateAfter end (opened n k) (place + length p)) (i .ours) (i .agreed);
-      stored = ap (λ (ρ : Side). ρ .buffer) (w .lands) ∙ ap (λ (n : ℕ). sets (σ .buffer) n p) (g .placed);
-    }
-
--- ---- all that comes in, from the place of the file's next part on
+-- what all that comes in comes to, from the place of the file's next part on
 record Given (place : ℕ) (σ : Side) (is : List Item) (τ : Side) : Type 0 where
   counted : own is ≡ counts place (framesOf (own is))
   stored : τ .buffer ≡ sets (σ .buffer) place (joined (framesOf (own is)))
 
-arrival : (session limit m place : ℕ) (start : Bool) (σ : Side) (is : List Item) (τ : Side) → FitFor session limit m σ
-    → (none (framesOf (own is)) ≡ false → Ready session limit place start σ)
-    → InTurn session limit place start (framesOf (own is)) → place + length (joined (framesOf (own is))) ≤ m
-    → Fed ByStep σ (all is) τ → Given place σ is τ
-unfolding all own counts InTurn joined Fed
-arrival session limit m place start σ [] τ i h g k e = record { counted = refl; stored = ap (λ (ρ : Side). ρ .buffer) e }
-arrival session limit m place start σ (otherFrame f n ∷ is) τ i h g k e =
-    let rest = subst (λ (ρ : Side). Fed ByStep ρ (all is) τ) (unchanged σ _ (e .0) n (e .1) refl) (e .2) in
-    let more = arrival session limit m place start σ is τ i h g k rest in
-    record { counted = more .counted; stored = more .stored }
-arrival session limit m place start σ (fileFrame x ∷ is) τ i h g k e =
-    let p = partOf (x .frame) in
-    let fs = framesOf (own is) in
-    let ρ = e .0 in
-    let n : length (p ++ joined fs) ≡ length p + length (joined fs) = length-append p (joined fs) in
-    let d = placed session limit m place start (none fs) σ x ρ (e .1) i (h refl) (g .0) (omega arith) in
-    let ready : none fs ≡ false → Ready session limit (place + length p) false ρ =
-    λ q. record { first = λ z. absurd (false≢true z); later = λ z. d .goes-on ∙ ap (λ (b : Bool). stateAfter b (opened session limit) (place + length p)) q } in
-    let more = arrival session limit m (place + length p) false ρ is τ (fit-next session limit m σ x ρ (e .1) i) ready (g .1) (omega arith) (e .2) in
-    record {
-      counted = ap₂ (λ (y : Exchange) (ys : List Exchange). y ∷ ys) (d .answered) (more .counted);
-      stored = more .stored ∙ ap (λ (b : List ℕ). sets b (place + length p) (joined fs)) (d .stored) ∙ sets-append (σ .buffer) place p (joined fs);
-    }
+-- ---- at a receiver of a session and a limit that is fit for its buffer, of m bytes
+module _ (session limit m : ℕ) where
+  -- where a receiver stands as a part is to come: anywhere before the first, and at the part's place before another
+  record Ready (place : ℕ) (start : Bool) (σ : Side) : Type 0 where
+    first : start ≡ true → place ≡ 0
+    later : start ≡ false → σ .state ≡ holding session limit place
 
--- the same of a whole file
-given : (session limit m : ℕ) (σ : Side) (file : List ℕ) (is : List Item) (τ : Side) → FitFor session limit m σ → Carried session limit file (framesOf (own is)) → length file ≤ m
-    → Fed ByStep σ (all is) τ → Given 0 σ is τ
-given session limit m σ file is τ i c fits e =
-    arrival session limit m 0 true σ is τ i (λ q. record { first = λ z. refl; later = λ z. absurd (true≢false z) }) (c .turns) (omega (arith, ap length (c .whole))) e
+  -- the part is put in its place, and answered with the bytes up to its end
+  record Placed (place : ℕ) (end : Bool) (σ : Side) (x : Exchange) (τ : Side) : Type 0 where
+    answered : x ≡ exchange (x .frame) (reply end (place + length (partOf (x .frame))))
+    goes-on : τ .state ≡ stateAfter end (opened session limit) (place + length (partOf (x .frame)))
+    stored : τ .buffer ≡ sets (σ .buffer) place (partOf (x .frame))
+
+  placed : (place : ℕ) (start end : Bool) (σ : Side) (x : Exchange) (τ : Side) → ByStep σ x τ → FitFor session limit m σ → Ready place start σ
+      → Carries session limit place start end (x .frame) → place + length (partOf (x .frame)) ≤ m → Placed place end σ x τ
+  unfolding reached
+  placed place start end σ x τ e i h g k =
+      let p = partOf (x .frame) in
+      let reach : reached (x .frame) ≡ place + length p = ap (λ (n : ℕ). n + length p) (g .placed) in
+      let w = takes σ x τ e (record {
+        fit = i .fit;
+        good = subst (λ (n : ℕ). frameFault n (x .frame) ≡ 0) (sym (i .agreed)) (g .good);
+        ours = g .ours ∙ sym (i .ours);
+        going = λ q. ap (λ (s : Receiver). s .«under_way») (h .later (sym (g .starts) ∙ q));
+        at-start = λ q. g .placed ∙ h .first (sym (g .starts) ∙ q);
+        at-count = λ q. g .placed ∙ sym (ap (λ (s : Receiver). s .count) (h .later (sym (g .starts) ∙ q)));
+        room = omega (arith, reach, i .room);
+      }) in
+      record {
+        answered = ap (exchange (x .frame)) (w .answered ∙ ap₂ reply (g .ends) reach);
+        goes-on =
+            ap (λ (ρ : Side). ρ .state) (w .lands)
+            ∙ ap₂ (λ (b : Bool) (n : ℕ). stateAfter b (σ .state) n) (g .ends) reach
+            ∙ after end (σ .state) (place + length p)
+            ∙ ap₂ (λ (n k : ℕ). stateAfter end (opened n k) (place + length p)) (i .ours) (i .agreed);
+        stored = ap (λ (ρ : Side). ρ .buffer) (w .lands) ∙ ap (λ (n : ℕ). sets (σ .buffer) n p) (g .placed);
+      }
+
+  arrival : (place : ℕ) (start : Bool) (σ : Side) (is : List Item) (τ : Side) → FitFor session limit m σ
+      → (none (framesOf (own is)) ≡ false → Ready place start σ)
+      → InTurn session limit place start (framesOf (own is)) → place + length (joined (framesOf (own is))) ≤ m
+      → Fed ByStep σ (all is) τ → Given place σ is τ
+  unfolding all own counts InTurn joined Fed
+  arrival place start σ [] τ i h g k e = record { counted = refl; stored = ap (λ (ρ : Side). ρ .buffer) e }
+  arrival place start σ (otherFrame f n ∷ is) τ i h g k e =
+      let rest = subst (λ (ρ : Side). Fed ByStep ρ (all is) τ) (unchanged σ _ (e .0) n (e .1) refl) (e .2) in
+      let more = arrival place start σ is τ i h g k rest in
+      record { counted = more .counted; stored = more .stored }
+  arrival place start σ (fileFrame x ∷ is) τ i h g k e =
+      let p = partOf (x .frame) in
+      let fs = framesOf (own is) in
+      let ρ = e .0 in
+      let n : length (p ++ joined fs) ≡ length p + length (joined fs) = length-append p (joined fs) in
+      let d = placed place start (none fs) σ x ρ (e .1) i (h refl) (g .0) (omega arith) in
+      let ready : none fs ≡ false → Ready (place + length p) false ρ =
+      λ q. record { first = λ z. absurd (false≢true z); later = λ z. d .goes-on ∙ ap (λ (b : Bool). stateAfter b (opened session limit) (place + length p)) q } in
+      let more = arrival (place + length p) false ρ is τ (fit-next session limit m σ x ρ (e .1) i) ready (g .1) (omega arith) (e .2) in
+      record {
+        counted = ap₂ (λ (y : Exchange) (ys : List Exchange). y ∷ ys) (d .answered) (more .counted);
+        stored = more .stored ∙ ap (λ (b : List ℕ). sets b (place + length p) (joined fs)) (d .stored) ∙ sets-append (σ .buffer) place p (joined fs);
+      }
+
+  -- the same of a whole file
+  given : (σ : Side) (file : List ℕ) (is : List Item) (τ : Side) → FitFor session limit m σ → Carried session limit file (framesOf (own is)) → length file ≤ m
+      → Fed ByStep σ (all is) τ → Given 0 σ is τ
+  given σ file is τ i c fits e =
+      arrival 0 true σ is τ i (λ q. record { first = λ z. refl; later = λ z. absurd (true≢false z) }) (c .turns) (omega (arith, ap length (c .whole))) e
 
 -- ---- frames with nothing between them
 pub all-file : (xs : List Exchange) → all (fileFrames xs) ≡ xs

@@ -169,17 +169,48 @@ keeps-next σ x τ e =
     (either-way σ x τ e)
 
 -- ---- a receiver of a session and a limit that is fit for its buffer, of m bytes, stays so
-pub record FitFor (session limit m : ℕ) (σ : Side) : Type 0 where
-  pub ours : σ .state .session ≡ session
-  pub agreed : σ .state .limit ≡ limit
-  pub good : badLargest limit ≡ false
-  pub room : length (σ .buffer) ≡ m
-  pub fit : unfit (σ .state) (σ .buffer) ≡ false
+
+-- a good frame's part has a byte or more, so it reaches beyond 0
+pub reaches : (limit : ℕ) (f : List ℕ) → frameFault limit f ≡ 0 → 0 < reached f
+unfolding reached
+reaches limit f e = omega (arith, part-within limit f e .0)
 
 fit-after : (end : Bool) (s : Receiver) (n : ℕ) (b : List ℕ) → badLargest (s .limit) ≡ false → 0 < n → n ≤ length b → unfit (stateAfter end s n) b ≡ false
 unfolding unfit
 fit-after true s n b l h k = simp (le-ltb (length b) 0 (omega arith)) l
 fit-after false s n b l h k = simp (le-ltb (length b) n k, ne-eqb n 0 (λ e. omega arith)) l
+
+module _ (session limit m : ℕ) where
+  pub record FitFor (σ : Side) : Type 0 where
+    pub ours : σ .state .session ≡ session
+    pub agreed : σ .state .limit ≡ limit
+    pub good : badLargest limit ≡ false
+    pub room : length (σ .buffer) ≡ m
+    pub fit : unfit (σ .state) (σ .buffer) ≡ false
+
+  fit-landed : (σ : Side) (f : List ℕ) → FitFor σ → Taken σ f → FitFor (landed σ f)
+  fit-landed σ f i t =
+      let s = σ .state in
+      let kept = keeps-after (isEnd f) s (reached f) (σ .buffer) (landed σ f .buffer) in
+      let same = length-sets (σ .buffer) (offsetOf f) (partOf f) in
+      record {
+        ours = kept .session ∙ i .ours;
+        agreed = kept .limit ∙ i .agreed;
+        good = i .good;
+        room = same ∙ i .room;
+        fit = fit-after (isEnd f) s (reached f) _ (ap badLargest (i .agreed) ∙ i .good) (reaches (s .limit) f (t .good)) (omega (arith, t .room, same));
+      }
+
+  pub fit-next : (σ : Side) (x : Exchange) (τ : Side) → ByStep σ x τ → FitFor σ → FitFor τ
+  fit-next σ x τ e i =
+      ⊎-elim (λ w. subst FitFor (sym (w .same)) i)
+      (λ w. subst FitFor (sym (w .lands)) (fit-landed σ (x .frame) i (w .able)))
+      (either-way σ x τ e)
+
+  pub fit-fed : (σ : Side) (xs : List Exchange) (τ : Side) → Fed ByStep σ xs τ → FitFor σ → FitFor τ
+  unfolding Fed
+  fit-fed σ [] τ e i = subst FitFor (sym e) i
+  fit-fed σ (x ∷ xs) τ h i = fit-fed (h .0) xs τ (h .2) (fit-next σ x (h .0) (h .1) i)
 
 -- where `open` does not refuse
 pub opened-as : (session limit : ℕ) (s : Receiver) → opening session limit ≡ Ready s → (s ≡ opened session limit) × (badLargest limit ≡ false)
@@ -195,32 +226,3 @@ fit-opened session limit s b e =
     let o = opened-as session limit s e in
     subst (λ (r : Receiver). FitFor session limit (length b) (side r b)) (sym (o .0))
     (record { ours = refl; agreed = refl; good = o .1; room = refl; fit = simp (le-ltb (length b) 0 (omega arith)) (o .1) })
-
--- a good frame's part has a byte or more, so it reaches beyond 0
-pub reaches : (limit : ℕ) (f : List ℕ) → frameFault limit f ≡ 0 → 0 < reached f
-unfolding reached
-reaches limit f e = omega (arith, part-within limit f e .0)
-
-fit-landed : (session limit m : ℕ) (σ : Side) (f : List ℕ) → FitFor session limit m σ → Taken σ f → FitFor session limit m (landed σ f)
-fit-landed session limit m σ f i t =
-    let s = σ .state in
-    let kept = keeps-after (isEnd f) s (reached f) (σ .buffer) (landed σ f .buffer) in
-    let same = length-sets (σ .buffer) (offsetOf f) (partOf f) in
-    record {
-      ours = kept .session ∙ i .ours;
-      agreed = kept .limit ∙ i .agreed;
-      good = i .good;
-      room = same ∙ i .room;
-      fit = fit-after (isEnd f) s (reached f) _ (ap badLargest (i .agreed) ∙ i .good) (reaches (s .limit) f (t .good)) (omega (arith, t .room, same));
-    }
-
-pub fit-next : (session limit m : ℕ) (σ : Side) (x : Exchange) (τ : Side) → ByStep σ x τ → FitFor session limit m σ → FitFor session limit m τ
-fit-next session limit m σ x τ e i =
-    ⊎-elim (λ w. subst (FitFor session limit m) (sym (w .same)) i)
-    (λ w. subst (FitFor session limit m) (sym (w .lands)) (fit-landed session limit m σ (x .frame) i (w .able)))
-    (either-way σ x τ e)
-
-pub fit-fed : (session limit m : ℕ) (σ : Side) (xs : List Exchange) (τ : Side) → Fed ByStep σ xs τ → FitFor session limit m σ → FitFor session limit m τ
-unfolding Fed
-fit-fed session limit m σ [] τ e i = subst (FitFor session limit m) (sym e) i
-fit-fed session limit m σ (x ∷ xs) τ h i = fit-fed session limit m (h .0) xs τ (h .2) (fit-next session limit m σ x (h .0) (h .1) i)
