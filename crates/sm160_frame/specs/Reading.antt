@@ -1,4 +1,4 @@
--- What reading a frame by its fields alone answers: the conditions of the refusal table, their order, and the answer.
+-- What a frame is judged by, and what reading it by its fields alone answers: the conditions of the refusal table, their order, and the answer.
 -- Assumes nothing.
 use Prim.Native.Nat.{ℕ, _+_}
 use mathlib.Core.Bool.{Bool, not, _||_}
@@ -13,14 +13,6 @@ use Rattle.sm160_frame.specs.declared.Fields.{Fields}
 use Rattle.sm160_frame.specs.declared.FrameRead.{FrameRead}
 use Rattle.sm160_frame.specs.declared.FrameRead.the-variants.{Frame, Refused}
 
--- 21 fewer than 12 bytes
-abbrev pub tooShort : List ℕ → Bool
-tooShort s = ltb (length s) 12
-
--- 22 part size differs from the bytes after the header
-abbrev pub wrongSize : List ℕ → Bool
-wrongSize s = not (eqb (sizeOf s) (length (partOf s)))
-
 -- the largest part of all: a frame's by its fields alone, and the largest that can be agreed on
 abbrev pub LARGEST : ℕ
 LARGEST = 240
@@ -28,6 +20,14 @@ LARGEST = 240
 -- 33 sender: largest part not 1..240; on opening with another number
 abbrev pub badLargest : ℕ → Bool
 badLargest largest = eqb largest 0 || ltb LARGEST largest
+
+-- 21 fewer than 12 bytes
+abbrev pub tooShort : List ℕ → Bool
+tooShort s = ltb (length s) 12
+
+-- 22 part size differs from the bytes after the header
+abbrev pub wrongSize : List ℕ → Bool
+wrongSize s = not (eqb (sizeOf s) (length (partOf s)))
 
 -- 23 part empty or above 240; at the receiver above the kept limit
 abbrev pub badPart : ℕ → List ℕ → Bool
@@ -41,8 +41,8 @@ wrongCrc s = not (eqb (crcOf s) (crcDue s))
 abbrev pub badFlags : ℕ → Bool
 badFlags flags = has QA flags || ltb (QA + START + END) flags
 
--- "A frame is also read and written by its fields alone, under 16 and 21 to 25." "Order is by number": with a limit for the part, that is
--- LARGEST by the fields alone, and at a receiver the one that it keeps
+-- "A frame is also read and written by its fields alone, under 16 and 21 to 25." "Order is by number": with a limit for the part, LARGEST by
+-- the fields alone, and at a receiver the one that it keeps
 abbrev pub frameRules : ℕ → List ℕ → List Rule
 frameRules limit s =
     21 when tooShort s
