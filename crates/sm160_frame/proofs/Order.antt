@@ -1,4 +1,4 @@
--- Demand 1 of the number that reading tells and of the number that writing tells.
+-- Demand 1 of the number that a frame is judged with, of the number that reading tells and of the number that writing tells.
 -- Assumes nothing.
 use mathlib.Core.Path.{refl}
 use mathlib.Core.List.{List}
@@ -7,11 +7,16 @@ use Rattle.wire.specs.Refusal.{FirstInOrder}
 use Rattle.wire.specs.Writes.{toldWritten}
 use Rattle.wire.specs.declared.Written.{Written}
 use Rattle.wire.proofs.Answer.{answer-first}
+use Rattle.wire.proofs.Refusal.{in-order}
 use Rattle.wire.proofs.Writes.{written-first}
 use Rattle.sm160_frame.specs.Layout.{frameBytes}
 use Rattle.sm160_frame.specs.Reading.{LARGEST, frameRules, frameFault, fieldsOf, readFrame, toldFrameRead}
 use Rattle.sm160_frame.specs.Writing.{writeRules, WritesFrame}
 use Rattle.sm160_frame.specs.declared.FrameRead.the-variants.{Frame, Refused}
+
+pub frame-fault-first : (limit : ℕ) (s : List ℕ) → FirstInOrder (frameRules limit s) (frameFault limit s)
+unfolding frameFault
+frame-fault-first limit s = in-order (frameRules limit s) _ tt refl
 
 pub frame-read-first : (s : List ℕ) → FirstInOrder (frameRules LARGEST s) (toldFrameRead (readFrame s) .number)
 unfolding readFrame frameFault
