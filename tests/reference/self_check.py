@@ -176,7 +176,7 @@ def agreed_part():
     for largest, due in ((0, (33, None)), (1, (0, (7, 1, False, 0))), (240, (0, (7, 240, False, 0))), (241, (33, None))):
         same(f"opening with {largest}", sm160.open_receiver(7, largest), due)
     start = sm160.frame_bytes(7, 0, 2, bytes(68))
-    damaged = sm160.frame_bytes(7, 0, 2, bytes(68))[:8] + bytes(2) + start[10:]
+    damaged = start[:8] + bytes(2) + start[10:]
     for limit, good, wrong in ((0, 20, 20), (67, 23, 23), (68, 0, 24), (240, 0, 24), (241, 20, 20)):
         same(f"68 bytes with limit {limit}", sm160.receive((7, limit, False, 0), start, bytes(99))[0], good)
         same(f"68 bytes with limit {limit}, CRC16 wrong", sm160.receive((7, limit, False, 0), damaged, bytes(99))[0], wrong)

@@ -249,11 +249,6 @@ def limits(build, going, idle, order):
                     yield *build({**plan, "limit": limit, "part": part, "crc": crc, "flags": plan["flags"] + end, "buffer": 260}), due
 
 
-def above_limit(session, file, limit, place=0):
-    """The frames of a file from a place on, cut into parts that are one byte longer than the limit, and the last a byte or more."""
-    return [piece(session, file, at, min(len(file), at + limit + 1)) for at in range(place, len(file), limit + 1)]
-
-
 def limited(rng, limit):
     """W-211: a file in parts above the limit, from its start and over a stump, of which nothing is stored; then one that keeps to it arrives whole."""
     session, size = rng.choice((1, 0x0102, 0xFFFF)), 2 * limit + 3
@@ -269,7 +264,8 @@ def limited(rng, limit):
             buffer, last = after, answer
         return last
 
-    long = above_limit(session, file, limit)
+    # two parts that are one byte too long, and then the file's last byte, with nothing under way
+    long = [piece(session, file, at, min(size, at + limit + 1)) for at in range(0, size, limit + 1)]
     yield from feed(long[:2], 23)
     yield from feed(long[2:], 27)
     for place in sorted({1, limit}):
