@@ -1,14 +1,16 @@
 """The acts of CASES.md: what each answers, as the words of its line, and which refusal numbers it can give."""
 import card
 import clock
+import datagram
 import modbus
 import pulsar_body
 import pulsar_frame
 import pulsar_line
+import read_file
 import readings
 import sm160
 from cases.making import changed
-from crc import crc16
+from crc import crc16, crc32
 from dates import NO_DATE, is_date
 from digits import digit, digit_of
 from lrc import lrc, summed
@@ -35,6 +37,14 @@ def writer(function):
     return answer
 
 
+def of_two(function):
+    """A writer whose two byte strings are given as one: the last number is the length of the first."""
+    def of_one(*given):
+        *numbers, length, both, output = given
+        return function(*numbers, both[:length], both[length:], output)
+    return of_one
+
+
 def checksum_from(numbers, strings):
     return told(0, crc16(strings[0], start=numbers[0]))
 
@@ -47,6 +57,12 @@ def stretches(numbers, strings):
     """What 02 asks of the two calls: the sum of the first stretch, and then that of the whole."""
     first, second = strings
     return told(0, crc16(first, start=numbers[0]), crc16(first + second, start=numbers[0]))
+
+
+def crc32_stretches(numbers, strings):
+    """As stretches, of the CRC-32."""
+    first, second = strings
+    return told(0, crc32(first, start=numbers[0]), crc32(first + second, start=numbers[0]))
 
 
 def sum_byte(numbers, strings):
@@ -191,6 +207,26 @@ def open_receiver(numbers, strings):
     return told(refusal, *map(int, state or ()))
 
 
+def datagram_fault(numbers, strings):
+    return told(datagram.datagram_fault(*strings))
+
+
+def put_ends(numbers, strings):
+    _, output = strings
+    return told(0, datagram.put_ends(*numbers, output))
+
+
+def long_text(numbers, strings):
+    """A text of zero bytes into an output of zero bytes, of which the CRC-32 is told."""
+    kind, length, room = numbers
+    text, output = bytes(length), bytes(room)
+    if kind == read_file.REQUEST:
+        refusal, length, output = read_file.write_request(0, 2 ** 64 - 1, text, output)
+    else:
+        refusal, length, output = read_file.write_reply(0, text, b"", output)
+    return told(refusal, length) + [crc32(output)]
+
+
 def write_card(numbers, strings):
     address, channel, date, kind, bits = numbers
     _, output = strings
@@ -233,8 +269,8 @@ ACTS = {
     35: ("write_ascii", [17, 16], writer(modbus.write_ascii)),
     40: ("SM160 read_frame", [21, 22, 23, 24, 25], reader(sm160.read_frame)),
     41: ("SM160 write_frame", [23, 25, 16], writer(sm160.write_frame)),
-    42: ("send", [32, 33, 34, 16], send),
-    43: ("receive", [20, 21, 22, 23, 24, 25, 26, 27, 28, 29, 30, 31], receive),
+    42: ("send", [32, 33, 37, 38, 39, 34, 16], send),
+    43: ("receive", [20, 21, 22, 23, 24, 25, 26, 27, 28, 29, 30, 31, 37, 38, 39], receive),
     44: ("open", [33], open_receiver),
     50: ("read_card", [50, 51, 52, 53, 54], reader(card.read_card)),
     51: ("write_card", [52, 53, 55, 16], write_card),
@@ -243,4 +279,15 @@ ACTS = {
     61: ("sum_byte", [], sum_byte),
     62: ("sum_from", [], sum_stretches),
     63: ("lrc, digit", [], of_a_byte),
+    70: ("crc32_from", [], crc32_stretches),
+    71: ("datagram_fault", [37, 38, 39], datagram_fault),
+    72: ("read_datagram", [37, 38, 39], reader(datagram.read_datagram)),
+    73: ("data_of", [37, 38, 39], reader(datagram.read_data)),
+    74: ("write_datagram", [16], writer(of_two(datagram.write_datagram))),
+    75: ("read 07", [37, 38, 39, 35, 36], reader(read_file.read_request)),
+    76: ("write 07", [16], writer(read_file.write_request)),
+    77: ("read 87", [37, 38, 39, 35, 36], reader(read_file.read_reply)),
+    78: ("write 87", [16], writer(of_two(read_file.write_reply))),
+    79: ("long texts", [36, 16], long_text),
+    80: ("put_opening, _closing", [], put_ends),
 }

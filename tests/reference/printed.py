@@ -1,6 +1,8 @@
 """Bytes that others printed.
 
 FRAMES: the eight packets of the SM160 paper (001, 2.3.7) that hold a file frame, sessions 1 and 2, Modbus TCP, as the traffic has them.
+DATAGRAMS: the four that these carry: the agreement on the frame size and its reply, the file request (two frames) and its reply (four).
+FILE_REQUEST: the third, as the paper also prints it before it is cut.
 MODBUS_PACKETS: these, the paper's "Modbus Next" and its log-in packets.
 MODBUS_LINES: RTU lines of public texts on Modbus.
 ASCII_LINES: ASCII lines of such texts.
@@ -51,6 +53,22 @@ FF FF FF FF FF 24 00 2F 75 73 72 2F 70 69 72 61 6D 69 64 61 2F 73
 00 60 55 04 00 69 63 5C 54 58 5C 41 49 22 20 56 3D 22 30 22 20 45
 3D 22 34 31 36 22 20 2F 3E 0A 00 00 DA 00 00 00 00 00 00 00 01 86
 40 21""")
+
+DATAGRAMS = [b"".join(packet[20:] for packet in frames) for frames in (FRAMES[:1], FRAMES[1:2], FRAMES[2:4], FRAMES[4:])]
+
+FILE_REQUEST = bytes.fromhex("""\
+07
+00
+37 00 00 00
+00 00 00 00 00 00 00 00
+FF FF FF FF FF FF FF FF
+24 00
+2F 75 73 72 2F 70 69 72 61 6D 69
+64 61 2F 73 74 6F 72 65 2F 61 72
+68 5F 32 30 31 33 30 31 32 33 2E
+78 6D 6C 00
+00 00 00 00 00 00 00 00
+A3 56 58 77""")
 
 MODBUS_PACKETS = FRAMES + packets("""\
 00 02 00 00 00 04 FF 45 00 00

@@ -1,21 +1,25 @@
-"""The reference against what it was not made from: printed traffic, published check values and functions, 01's edges and its card, python's calendar."""
+"""The reference against what it was not made from: printed traffic, published check values and functions, 01's edges and its card, python's calendar and CRC-32."""
 import calendar
 import datetime
 import itertools
+import random
+import zlib
 
 import card
 import clock
+import datagram
 import modbus
 import pulsar_body
 import pulsar_frame
 import pulsar_line
+import read_file
 import readings
 import sm160
-from crc import crc16, low_byte_first
+from crc import crc16, crc32, low_byte_first
 from dates import is_date
 from digits import digit, digit_of
 from lrc import lrc
-from printed import ASCII_LINES, FRAMES, MODBUS_LINES, MODBUS_PACKETS
+from printed import ASCII_LINES, DATAGRAMS, FILE_REQUEST, FRAMES, MODBUS_LINES, MODBUS_PACKETS
 
 CARD = bytes.fromhex("00 00 00 20 00 21 00 00 40 00 00 00 00 00 00 00 A0")
 LISTING = "address;channel;time;kind;bits\n00000001;1;2000-01-01 00:00:00;2;0000000000000005\n"
@@ -33,6 +37,20 @@ def checksums():
     same("CRC-16/ARC of 123456789", crc16(b"123456789", start=0), 0xBB3D)
     for message in (b"", b"\x00", b"123456789", bytes(range(256))):
         same("over a message and its checksum", crc16(message + low_byte_first(crc16(message))), 0)
+
+
+def crc32s():
+    """Beside python's, from any start, and over stretches."""
+    same("CRC-32 of 123456789", crc32(b"123456789"), 0xCBF43926)
+    same("CRC-32 of nothing", crc32(b""), 0)
+    rng = random.Random(32)
+    for length in (0, 1, 2, 3, 4, 9, 100, 1000):
+        message = rng.randbytes(length)
+        cut = rng.randint(0, length)
+        same("CRC-32", crc32(message), zlib.crc32(message))
+        same("CRC-32 of two stretches", crc32(message[cut:], start=crc32(message[:cut])), zlib.crc32(message))
+        for start in (0, 1, 0x80000000, 0xFFFFFFFF, rng.randrange(2 ** 32)):
+            same("CRC-32 from a start", crc32(message, start=start), zlib.crc32(message, start))
 
 
 def printed_frames():
@@ -70,9 +88,102 @@ def printed_sessions():
     same("session 1 from opening", fed((1, 68, False, 0), FRAMES[:2], bytes(400))[0], [25, 28])
     same("session 2 from opening", fed((2, 68, False, 0), FRAMES[2:], bytes(400))[0], [25, 25, 28, 27, 27, 27])
     answers, state, buffer = fed((2, 68, True, 141), FRAMES[5:], bytes(400))
-    same("session 2 from 141", answers, [(False, 209), (False, 277), (True, 318)])
-    same("state after it", state, (2, 68, False, 0))
-    same("bytes after it", buffer, bytes(141) + b"".join(packet[20:] for packet in FRAMES[5:]) + bytes(400 - 318))
+    same("session 2 from 141", answers, [(False, 209), (False, 277), 37])
+    same("state after it", state, (2, 68, True, 277))
+    same("bytes after it", buffer, bytes(141) + b"".join(packet[20:] for packet in FRAMES[5:7]) + bytes(400 - 277))
+
+
+def counted_from_start():
+    """Each printed datagram with its offsets counted from its START, and without QA, arrives whole."""
+    due = [[(True, 22)], [(True, 31)], [(False, 68), (True, 73)], [(False, 68), (False, 136), (False, 204), (True, 245)]]
+    for frames, whole, answers in zip((FRAMES[:1], FRAMES[1:2], FRAMES[2:4], FRAMES[4:]), DATAGRAMS, due):
+        first = frames[0][8:]
+        session, start = sm160.session_field(first), sm160.offset_field(first)
+        state, buffer, got = (session, 68, False, 0), bytes(300), []
+        for packet in frames:
+            frame = packet[8:]
+            anew = sm160.frame_bytes(session, sm160.offset_field(frame) - start, sm160.flags_field(frame) & ~sm160.QA, sm160.part(frame))
+            _, answer, state, buffer = sm160.receive(state, anew, buffer)
+            got.append(answer)
+        same("counted from START", (got, state, buffer), (answers, (session, 68, False, 0), whole + bytes(300 - len(whole))))
+
+
+def printed_datagrams():
+    due = [
+        # type, options, data
+        (0x0C, bytes.fromhex("50000000"), b""),
+        (0x8C, bytes.fromhex("00000000 0200 4F4B00 50000000"), b""),
+        (0x07, bytes(8) + b"\xFF" * 8 + b"\x24\x00/usr/piramida/store/arh_20130123.xml\x00", b""),
+        (0x87, bytes.fromhex("00000000 0200 4F4B00"), DATAGRAMS[3][15:-12]),
+    ]
+    same("the file request before it is cut", DATAGRAMS[2], FILE_REQUEST)
+    for one, (kind, options, data) in zip(DATAGRAMS, due):
+        same("printed datagram", datagram.read_datagram(one), (0, (kind, len(options), len(data), options)))
+        same("its data", datagram.read_data(one), (0, (kind, data)))
+        same("its CRC-32", datagram.crc32_field(one), zlib.crc32(one[:-12]))
+        same("written", datagram.write_datagram(kind, options, data, bytes(len(one))), (0, len(one), one))
+    same("as requests", [read_file.read_request(one)[0] for one in DATAGRAMS], [35, 35, 0, 35])
+    same("as replies", [read_file.read_reply(one)[0] for one in DATAGRAMS], [35, 35, 35, 0])
+    same("the file request", read_file.read_request(DATAGRAMS[2])[1], (0, 2 ** 64 - 1, b"/usr/piramida/store/arh_20130123.xml"))
+    same("the file reply", read_file.read_reply(DATAGRAMS[3])[1], (0, 218, b"OK"))
+    # its data: one fragment with its length, and the fragment of length 0
+    chunk = due[3][2]
+    same("the file's fragment", (chunk[:2], chunk[2:5], chunk[-5:]), (b"\xD6\x00", b"<r ", b"/>\n\x00\x00"))
+
+
+def datagram_edges():
+    least = datagram.datagram_bytes(0, b"", b"")
+    same("18 bytes", (len(least), datagram.datagram_fault(least, b"")), (18, 0))
+    same("17 bytes", datagram.datagram_fault(least[:17], b""), 37)
+    # 18 + 10 + (2^64 - 5) is 23 modulo 2^64
+    front = bytes([7, 0, 10, 0, 0, 0]) + bytes(5)
+    wrapped = front + (2 ** 64 - 5).to_bytes(8, "little") + zlib.crc32(front).to_bytes(4, "little")
+    same("lengths that wrap", (len(wrapped), datagram.datagram_fault(b"", wrapped)), (23, 37))
+    rng = random.Random(203)
+    for _ in range(20):
+        kind, options, data = rng.randrange(256), rng.randbytes(rng.randrange(9)), rng.randbytes(rng.randrange(9))
+        _, length, output = datagram.write_datagram(kind, options, data, b"\x5A" * 40)
+        one = output[:length]
+        same("written and read", (datagram.read_datagram(one)[1], datagram.read_data(one)[1]), ((kind, len(options), len(data), options), (kind, data)))
+        same("bytes after it", output[length:], b"\x5A" * (40 - length))
+        same("one byte less", datagram.write_datagram(kind, options, data, bytes(length - 1)), (16, None, bytes(length - 1)))
+        same("put in two steps", datagram.put_ends(kind, len(options), length - 12, len(data), bytes(6) + options + data + bytes(12)), one)
+        same("cut at each place", {datagram.datagram_fault(one[:cut], one[cut:]) for cut in range(length + 1)}, {0})
+        # every changed bit is found
+        for bit in range(8 * length):
+            lengths = bit // 8 in range(2, 6) or bit // 8 in range(length - 12, length - 4)
+            broken = one[:bit // 8] + bytes([one[bit // 8] ^ 1 << bit % 8]) + one[bit // 8 + 1:]
+            same(f"bit {bit}", datagram.datagram_fault(broken, b""), 37 if lengths else 38)
+
+
+def texts():
+    """Requests and replies written and read; the longest text and one byte more."""
+    for text in (b"", b"\x00", b"n\x00me", bytes(range(256)), bytes(65_535)):
+        _, length, one = read_file.write_request(1, 2 ** 64 - 1, text, bytes(37 + len(text)))
+        same("request", (length, read_file.read_request(one)), (37 + len(text), (0, (1, 2 ** 64 - 1, text))))
+        _, length, one = read_file.write_reply(2 ** 32 - 1, text, b"data", bytes(29 + len(text)))
+        same("reply", (length, read_file.read_reply(one)), (29 + len(text), (0, (2 ** 32 - 1, 4, text))))
+    same("a long name", read_file.write_request(0, 0, bytes(65_536), b""), (36, None, b""))
+    same("a long message", read_file.write_reply(0, bytes(65_536), b"", bytes(70_000)), (36, None, bytes(70_000)))
+
+
+def sent_and_received():
+    """A datagram that is sent arrives; what is no datagram is not sent, and END does not complete it."""
+    rng = random.Random(42)
+    for largest in (1, 7, 18, 240):
+        file = datagram.datagram_bytes(7, rng.randbytes(9), rng.randbytes(300))
+        state, buffer, place = sm160.open_receiver(5, largest)[1], bytes(400), 0
+        while place < len(file):
+            _, length, place, output = sm160.send(file, 5, largest, place, bytes(252))
+            refusal, answer, state, buffer = sm160.receive(state, output[:length], buffer)
+            same("a frame of it", (refusal, answer), (0, (place == len(file), place)))
+        same("the file", (state, buffer), ((5, largest, False, 0), file + bytes(400 - len(file))))
+        for wrong, due in ((file[:-1], 37), (file[:-1] + bytes([file[-1] ^ 1]), 38), (b"\x07" * 17, 37)):
+            for place in (0, len(wrong) - 1, len(wrong)):
+                same("no datagram, sent", sm160.send(wrong, 5, largest, place, bytes(252))[0], due)
+            end = sm160.frame_bytes(5, len(wrong) - 1, sm160.END, wrong[-1:])
+            lent = ((5, largest, True, len(wrong) - 1), wrong[:-1] + b"\x5A")
+            same("no datagram, ended", sm160.receive(lent[0], end, lent[1]), (due, None, *lent))
 
 
 def modbus_examples():
@@ -180,8 +291,9 @@ def agreed_part():
     for limit, good, wrong in ((0, 20, 20), (67, 23, 23), (68, 0, 24), (240, 0, 24), (241, 20, 20)):
         same(f"68 bytes with limit {limit}", sm160.receive((7, limit, False, 0), start, bytes(99))[0], good)
         same(f"68 bytes with limit {limit}, CRC16 wrong", sm160.receive((7, limit, False, 0), damaged, bytes(99))[0], wrong)
-    whole = sm160.frame_bytes(7, 0, 6, bytes(5))
-    same("the limit after a completion", sm160.receive((7, 9, False, 0), whole, bytes(5)), (0, (True, 5), (7, 9, False, 0), bytes(5)))
+    file = datagram.datagram_bytes(0x0C, b"", b"")
+    whole = sm160.frame_bytes(7, 0, 6, file)
+    same("the limit after a completion", sm160.receive((7, 18, False, 0), whole, bytes(18)), (0, (True, 18), (7, 18, False, 0), file))
 
 
 def collector():
@@ -212,7 +324,8 @@ def seconds():
 
 
 def check():
-    for one in (checksums, printed_frames, printed_sessions, modbus_examples, functions_of_003, ascii_lengths, edges, on_its_way, agreed_part, lister, collector, dates, seconds):
+    for one in (checksums, crc32s, printed_frames, printed_sessions, counted_from_start, printed_datagrams, datagram_edges, texts, sent_and_received,
+                modbus_examples, functions_of_003, ascii_lengths, edges, on_its_way, agreed_part, lister, collector, dates, seconds):
         one()
 
 

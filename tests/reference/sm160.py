@@ -2,18 +2,17 @@
 
 The CRC16 is the one that all printed frames have (01: the traffic decides): polynomial A001, start 0000, over the whole frame
 with the two CRC16 bytes taken as zero, low byte first.
+
+02, W-203: the sender sends and the receiver completes datagrams alone.
 """
 from crc import crc16, low_byte_first
+from datagram import datagram_rules, number
 from refusals import first, read, written
 
 HEADER = 12
 LONGEST_PART = 240
 LONGEST_FILE = 4_294_967_295
 QA, START, END = 1, 2, 4
-
-
-def number(some):
-    return int.from_bytes(some, "little")
 
 
 def session_field(frame):
@@ -97,6 +96,7 @@ def send(file, session, largest, place, output):
     refusal, length, output = written([
         (32, lambda: len(file) == 0 or len(file) > LONGEST_FILE),
         (33, lambda: not 1 <= largest <= LONGEST_PART),
+    ] + datagram_rules(file) + [
         (34, lambda: place >= len(file)),
         (16, lambda: len(output) < HEADER + len(of)),
     ], lambda: frame_bytes(session, place, flags, of), output)
@@ -106,6 +106,11 @@ def send(file, session, largest, place, output):
 def open_receiver(session, largest):
     """(number, the state or None): a session, the largest part, whether a file is under way, and the count held."""
     return read([(33, lambda: largest not in range(1, LONGEST_PART + 1))], lambda: (session, largest, False, 0))
+
+
+def judged_at_end(frame, held):
+    """With END, and only then, the file must be a datagram: the bytes held and the new part."""
+    return [(refusal, lambda fault=fault: is_end(frame) and fault()) for refusal, fault in datagram_rules(held + part(frame))]
 
 
 def receive(state, frame, buffer):
@@ -124,7 +129,7 @@ def receive(state, frame, buffer):
         (29, lambda: not is_start(frame) and offset_field(frame) < count),
         (30, lambda: not is_start(frame) and offset_field(frame) > count),
         (31, lambda: place() + len(part(frame)) > len(buffer)),
-    ])
+    ] + judged_at_end(frame, buffer[:place()]))
     if refusal:
         return refusal, None, state, buffer
     held = place() + len(part(frame))

@@ -2,9 +2,9 @@
 -- Assumes nothing.
 use mathlib.Core.Path.{refl}
 use Rattle.wire.specs.Told.{AllHold}
-use Rattle.checksum.specs.Crc.{crcBits, crcFrom}
+use Rattle.checksum.specs.Crc.{crcBits, remainder}
 use Rattle.checksum.specs.Edges.{checksumEdges}
 
 pub checksum-edges : AllHold checksumEdges
-unfolding crcFrom crcBits
+unfolding remainder crcBits
 checksum-edges = (refl, (refl, (refl, tt)))

@@ -1,5 +1,7 @@
 pub mod Xor
+pub mod Remainder
 pub mod Laws
+pub mod Crc32
 pub mod Table
 pub mod Sums
 pub mod Edges

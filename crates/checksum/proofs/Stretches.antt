@@ -12,7 +12,7 @@ use denote.Triple.Clauses.{AtExit}
 use denote.Ref.{RefT, now}
 use Rattle.wire.specs.Each.{Bytes}
 use Rattle.wire.specs.Numbers.{ofLe, field}
-use Rattle.checksum.specs.Crc.{crcFrom}
+use Rattle.checksum.specs.Crc.{crcFrom, remainder}
 use Rattle.checksum.specs.Stretches.{InTurn}
 use Rattle.checksum.proofs.Laws.{crcFrom-append, closes-at}
 use Rattle.checksum.proofs.checksum_from as from
@@ -38,7 +38,7 @@ goes-on : (start : ℕ) (bytes : List ℕ) (c : ℕ) (more : List ℕ) → Sums 
 goes-on start bytes c more one = ap (λ (k : ℕ). crcFrom k more) (sum-due start bytes c one) ∙ sym (crcFrom-append start bytes more)
 
 due-in-turn : (start : ℕ) (stretches : List (List ℕ)) (sum : ℕ) → InTurn Sums start stretches sum → sum ≡ crcFrom start (flatten stretches)
-unfolding InTurn crcFrom flatten
+unfolding InTurn remainder flatten
 due-in-turn start [] sum e = e
 due-in-turn start (bytes ∷ more) sum (c, one, rest) = due-in-turn c more sum rest ∙ goes-on start bytes c (flatten more) one
 
@@ -55,7 +55,7 @@ cut-in-many start stretches sum all turns whole = due-in-turn start stretches su
 
 -- at its ends: a stretch of no bytes answers what it starts from
 pub of-nothing : (start sum : ℕ) → Sums start [] sum → sum ≡ start
-unfolding crcFrom
+unfolding remainder
 of-nothing start sum one = sum-due start [] sum one
 
 -- A frame or an envelope that comes in stretches, up to its last two bytes at n: these are the checksum of those before them exactly if all,

@@ -9,7 +9,7 @@ use lib.Bits.{bitXor}
 use lib.ListN.{length, getD}
 use Rattle.checksum.specs.Crc.{crcBits}
 use Rattle.checksum.specs.Table.{entries, fours}
-use Rattle.checksum.proofs.Laws.{bits-at-once}
+use Rattle.checksum.proofs.Remainder.{bits-at-once}
 
 -- the rule of any such table, at each of its places
 entry : (f : ℕ → ℕ) (n k j : ℕ) → j < n → getD (entries f k n) j 0 ≡ f (k + j)
@@ -19,14 +19,14 @@ entry f (suc n) k (suc j) h =
     let e : suc k + j ≡ k + suc j = omega arith in
     entry f n (suc k) j (omega arith) ∙ ap f e
 
-pub fours-size : length fours ≡ 16
+pub fours-size : (poly : ℕ) → length (fours poly) ≡ 16
 unfolding fours
-fours-size = refl
+fours-size poly = refl
 
 -- four bits of any remainder: the entry at its lowest four, and the others moved down
-pub four-at-once : (table : List ℕ) (k c : ℕ) → table ≡ fours → k ≡ c % 16 → bitXor (c / 16) (getD table k 0) ≡ crcBits 4 c
+pub four-at-once : (poly : ℕ) (table : List ℕ) (k c : ℕ) → table ≡ fours poly → k ≡ c % 16 → bitXor (c / 16) (getD table k 0) ≡ crcBits poly 4 c
 unfolding fours
-four-at-once table k c e at =
+four-at-once poly table k c e at =
     ap₂ (λ (t : List ℕ) (j : ℕ). bitXor (c / 16) (getD t j 0)) e at
-    ∙ ap (bitXor (c / 16)) (entry (crcBits 4) 16 0 (c % 16) (omega arith) ∙ ap (crcBits 4) (zero-add (c % 16)))
-    ∙ sym (bits-at-once 4 c)
+    ∙ ap (bitXor (c / 16)) (entry (crcBits poly 4) 16 0 (c % 16) (omega arith) ∙ ap (crcBits poly 4) (zero-add (c % 16)))
+    ∙ sym (bits-at-once poly 4 c)

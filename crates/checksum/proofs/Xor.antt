@@ -19,7 +19,7 @@ module _ (P : ℕ → Type 0) (none : P 0) (one : P 1) where
   of-digit (suc zero) h = one
   of-digit (suc (suc d)) h = absurd (omega arith)
 
-  digit : (n : ℕ) → P (n % 2)
+  pub digit : (n : ℕ) → P (n % 2)
   digit n = of-digit (n % 2) (omega arith)
 
 digits-assoc : (a b c : ℕ) → bitXor (bitXor (a % 2) (b % 2)) (c % 2) ≡ bitXor (a % 2) (bitXor (b % 2) (c % 2))

@@ -1,4 +1,4 @@
--- The table of sixteen entries: four bits of each remainder below 16.
+-- The tables of sixteen entries: four bits of each remainder below 16.
 -- Assumes nothing.
 use Prim.Native.Nat.{ℕ, zero, suc}
 use mathlib.Core.List.{List, [], _∷_}
@@ -10,5 +10,5 @@ entries f k zero = []
 entries f k (suc n) = f k ∷ entries f (suc k) n
 
 -- "Use 16 entries"
-unfoldable pub fours : List ℕ
-fours = entries (crcBits 4) 0 16
+unfoldable pub fours : ℕ → List ℕ
+fours poly = entries (crcBits poly 4) 0 16

@@ -6,18 +6,18 @@ use mathlib.Core.Bool.{Bool, true, false, cond, false≢true}
 use mathlib.Core.List.{List, [], _∷_, _++_, append-nil, append-assoc}
 use Prim.Native.Nat.{ℕ, _+_}
 use native.Mathlib.Nat.{add-zero, zero-add, add-assoc}
-use native.Mathlib.Omega.{arith}
 use lib.ListN.{length, take, length-append}
 use lib.Seq.{sets}
 use Rattle.sm160_frame.specs.Layout.{offsetOf, partOf, isStart, isEnd}
 use Rattle.sm160_frame.specs.Reading.{frameFault}
 use Rattle.sm160_frame.specs.Carried.{Carries, none, InTurn, joined}
-use Rattle.sm160_receiver.specs.Receiving.{reached, stateAfter}
+use Rattle.sm160_datagram.specs.Reading.{datagramFault}
+use Rattle.sm160_receiver.specs.Receiving.{reached, fileWith, stateAfter}
 use Rattle.sm160_receiver.specs.declared.Receiver.{Receiver}
 use Rattle.sm160_receiver.specs.declared.Answer.the-variants.{Complete}
 use Rattle.demand3.specs.Feeding.{Side, side, Exchange, exchange, EndsWith, Fed, ByStep, Steps}
 use Rattle.demand3.specs.Completion.{isRefused, acceptedFrames, keepFrom, sinceStart, HoldsFile}
-use Rattle.demand3.proofs.Taking.{take-sets, reply-complete, Taken, either-way, taken-not, reaches, FitFor, opened-as, fit-opened, fit-next}
+use Rattle.demand3.proofs.Taking.{take-sets, reply-complete, Taken, either-way, taken-not, FitFor, opened-as, fit-opened, fit-next}
 
 -- ---- lists of frames
 
@@ -125,9 +125,12 @@ module _ (session limit : ℕ) where
     abbrev Stored : List ℕ
     Stored = sets (σ .buffer) (offsetOf f) (partOf f)
 
-    stored-bytes : take (reached f) Stored ≡ joined (fs ++ (f ∷ []))
+    take-stored : take (reached f) Stored ≡ fileWith (σ .buffer) f
     unfolding reached
-    stored-bytes = take-sets (σ .buffer) (offsetOf f) (partOf f) (t .room) ∙ ap (λ (l : List ℕ). l ++ partOf f) (h .bytes) ∙ sym (joined-snoc fs f)
+    take-stored = take-sets (σ .buffer) (offsetOf f) (partOf f) (t .room)
+
+    stored-bytes : take (reached f) Stored ≡ joined (fs ++ (f ∷ []))
+    stored-bytes = take-stored ∙ ap (λ (l : List ℕ). l ++ partOf f) (h .bytes) ∙ sym (joined-snoc fs f)
 
     stored-count : reached f ≡ length (joined (fs ++ (f ∷ [])))
     unfolding reached
@@ -146,9 +149,8 @@ module _ (session limit : ℕ) where
 
     holds-file : isEnd f ≡ true → HoldsFile session limit (reached f) Stored (fs ++ (f ∷ []))
     holds-file e =
-        let some = reaches (σ .state .limit) f (t .good) in
         record {
-          some = omega arith;
+          datagram = ap datagramFault take-stored ∙ t .whole e;
           count = stored-count;
           carried = record { whole = sym stored-bytes; turns = turn-snoc 0 true fs f (h .begin) (next true e) };
         }
@@ -195,8 +197,8 @@ module _ (session limit : ℕ) where
 
 -- ---- the demand
 
--- A receiver is opened, lent b and fed any frames. Where the last is answered with completion at n: the first n bytes of the buffer are the
--- joined parts of the frames accepted from the last accepted START on, without gap or repeat.
+-- A receiver is opened, lent b and fed any frames. Where the last is answered with completion at n: the first n bytes of the buffer are a
+-- well-formed datagram, and the joined parts of the frames accepted from the last accepted START on, without gap or repeat.
 pub completed : (session limit : ℕ) (b : List ℕ) (xs : List Exchange) (τ : Side) (n : ℕ)
     → Steps session limit b xs τ → EndsWith (Complete n) xs → HoldsFile session limit n (τ .buffer) (sinceStart (acceptedFrames xs))
 completed session limit b xs τ n s w =

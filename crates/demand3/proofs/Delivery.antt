@@ -2,23 +2,25 @@
 -- Assumes nothing.
 use mathlib.Core.Path.{_≡_, refl, sym, ap, ap₂, subst, _∙_}
 use mathlib.Core.Bool.{Bool, true, false, true≢false, false≢true}
-use mathlib.Core.List.{List, [], _∷_, _++_}
+use mathlib.Core.List.{List, [], _∷_, _++_, append-nil, append-assoc}
 use Prim.Native.Nat.{ℕ, _+_, _≤_}
 use native.Mathlib.Nat.{add-zero, add-assoc}
 use native.Mathlib.Omega.{arith}
-use lib.ListN.{length, length-append}
+use lib.ListN.{length, take, length-append}
 use lib.Seq.{sets}
 use Rattle.wire.specs.Numbers.{over}
 use Rattle.wire.proofs.Writing.{sets-append, sets-over}
 use Rattle.sm160_frame.specs.Layout.{partOf}
 use Rattle.sm160_frame.specs.Reading.{frameFault}
 use Rattle.sm160_frame.specs.Carried.{Carries, none, InTurn, joined, Carried}
+use Rattle.sm160_datagram.specs.Reading.{datagramFault}
+use Rattle.sm160_datagram.proofs.Bytes.{datagram-length}
 use Rattle.sm160_receiver.specs.Receiving.{opened, holding, reached, reply, stateAfter}
 use Rattle.sm160_receiver.specs.declared.Receiver.{Receiver}
 use Rattle.sm160_receiver.specs.declared.Answer.the-variants.{Held, Complete}
 use Rattle.demand3.specs.Feeding.{Side, side, Exchange, exchange, framesOf, EndsWith, Fed, ByStep, Steps}
 use Rattle.demand3.specs.Arrival.{Item, fileFrame, otherFrame, all, own, Arrives, counts, Delivered, fileFrames}
-use Rattle.demand3.proofs.Taking.{takes, unchanged, FitFor, fit-opened, fit-next, fit-fed}
+use Rattle.demand3.proofs.Taking.{take-sets, takes, unchanged, FitFor, fit-opened, fit-next, fit-fed}
 
 -- what a frame does not set is as it was opened
 after : (end : Bool) (s : Receiver) (n : ℕ) → stateAfter end s n ≡ stateAfter end (opened (s .session) (s .limit)) n
@@ -29,6 +31,12 @@ after false s n = refl
 record Given (place : ℕ) (σ : Side) (is : List Item) (τ : Side) : Type 0 where
   counted : own is ≡ counts place (framesOf (own is))
   stored : τ .buffer ≡ sets (σ .buffer) place (joined (framesOf (own is)))
+
+-- what is held and what is to come is a datagram: so at END, where nothing is to come, what is held and the part is one
+at-end : (held p : List ℕ) (fs : List (List ℕ)) → datagramFault (held ++ (p ++ joined fs)) ≡ 0 → none fs ≡ true → datagramFault (held ++ p) ≡ 0
+unfolding joined
+at-end held p [] v q = ap (λ (l : List ℕ). datagramFault (held ++ l)) (sym (append-nil p)) ∙ v
+at-end held p (f ∷ fs) v q = absurd (false≢true q)
 
 -- ---- at a receiver of a session and a limit that is fit for its buffer, of m bytes
 module _ (session limit m : ℕ) where
@@ -44,9 +52,10 @@ module _ (session limit m : ℕ) where
     stored : τ .buffer ≡ sets (σ .buffer) place (partOf (x .frame))
 
   placed : (place : ℕ) (start end : Bool) (σ : Side) (x : Exchange) (τ : Side) → ByStep σ x τ → FitFor session limit m σ → Ready place start σ
-      → Carries session limit place start end (x .frame) → place + length (partOf (x .frame)) ≤ m → Placed place end σ x τ
+      → Carries session limit place start end (x .frame) → place + length (partOf (x .frame)) ≤ m
+      → (end ≡ true → datagramFault (take place (σ .buffer) ++ partOf (x .frame)) ≡ 0) → Placed place end σ x τ
   unfolding reached
-  placed place start end σ x τ e i h g k =
+  placed place start end σ x τ e i h g k v =
       let p = partOf (x .frame) in
       let reach : reached (x .frame) ≡ place + length p = ap (λ (n : ℕ). n + length p) (g .placed) in
       let w = takes σ x τ e (record {
@@ -57,6 +66,7 @@ module _ (session limit m : ℕ) where
         at-start = λ q. g .placed ∙ h .first (sym (g .starts) ∙ q);
         at-count = λ q. g .placed ∙ sym (ap (λ (s : Receiver). s .count) (h .later (sym (g .starts) ∙ q)));
         room = omega (arith, reach, i .room);
+        whole = λ q. ap (λ (n : ℕ). datagramFault (take n (σ .buffer) ++ p)) (g .placed) ∙ v (sym (g .ends) ∙ q);
       }) in
       record {
         answered = ap (exchange (x .frame)) (w .answered ∙ ap₂ reply (g .ends) reach);
@@ -71,22 +81,27 @@ module _ (session limit m : ℕ) where
   arrival : (place : ℕ) (start : Bool) (σ : Side) (is : List Item) (τ : Side) → FitFor session limit m σ
       → (none (framesOf (own is)) ≡ false → Ready place start σ)
       → InTurn session limit place start (framesOf (own is)) → place + length (joined (framesOf (own is))) ≤ m
+      → datagramFault (take place (σ .buffer) ++ joined (framesOf (own is))) ≡ 0
       → Fed ByStep σ (all is) τ → Given place σ is τ
   unfolding all own counts InTurn joined Fed
-  arrival place start σ [] τ i h g k e = record { counted = refl; stored = ap (λ (ρ : Side). ρ .buffer) e }
-  arrival place start σ (otherFrame f n ∷ is) τ i h g k e =
+  arrival place start σ [] τ i h g k v e = record { counted = refl; stored = ap (λ (ρ : Side). ρ .buffer) e }
+  arrival place start σ (otherFrame f n ∷ is) τ i h g k v e =
       let rest = subst (λ (ρ : Side). Fed ByStep ρ (all is) τ) (unchanged σ _ (e .0) n (e .1) refl) (e .2) in
-      let more = arrival place start σ is τ i h g k rest in
+      let more = arrival place start σ is τ i h g k v rest in
       record { counted = more .counted; stored = more .stored }
-  arrival place start σ (fileFrame x ∷ is) τ i h g k e =
+  arrival place start σ (fileFrame x ∷ is) τ i h g k v e =
       let p = partOf (x .frame) in
       let fs = framesOf (own is) in
       let ρ = e .0 in
       let n : length (p ++ joined fs) ≡ length p + length (joined fs) = length-append p (joined fs) in
-      let d = placed place start (none fs) σ x ρ (e .1) i (h refl) (g .0) (omega arith) in
+      let d = placed place start (none fs) σ x ρ (e .1) i (h refl) (g .0) (omega arith) (at-end (take place (σ .buffer)) p fs v) in
       let ready : none fs ≡ false → Ready (place + length p) false ρ =
       λ q. record { first = λ z. absurd (false≢true z); later = λ z. d .goes-on ∙ ap (λ (b : Bool). stateAfter b (opened session limit) (place + length p)) q } in
-      let more = arrival (place + length p) false ρ is τ (fit-next session limit m σ x ρ (e .1) i) ready (g .1) (omega arith) (e .2) in
+      let held : take (place + length p) (ρ .buffer) ++ joined fs ≡ take place (σ .buffer) ++ (p ++ joined fs) =
+      ap (λ (b : List ℕ). take (place + length p) b ++ joined fs) (d .stored)
+      ∙ ap (λ (l : List ℕ). l ++ joined fs) (take-sets (σ .buffer) place p (omega (arith, i .room)))
+      ∙ append-assoc (take place (σ .buffer)) p (joined fs) in
+      let more = arrival (place + length p) false ρ is τ (fit-next session limit m σ x ρ (e .1) i) ready (g .1) (omega arith) (ap datagramFault held ∙ v) (e .2) in
       record {
         counted = ap₂ (λ (y : Exchange) (ys : List Exchange). y ∷ ys) (d .answered) (more .counted);
         stored = more .stored ∙ ap (λ (b : List ℕ). sets b (place + length p) (joined fs)) (d .stored) ∙ sets-append (σ .buffer) place p (joined fs);
@@ -94,9 +109,10 @@ module _ (session limit m : ℕ) where
 
   -- the same of a whole file
   given : (σ : Side) (file : List ℕ) (is : List Item) (τ : Side) → FitFor session limit m σ → Carried session limit file (framesOf (own is)) → length file ≤ m
-      → Fed ByStep σ (all is) τ → Given 0 σ is τ
-  given σ file is τ i c fits e =
-      arrival 0 true σ is τ i (λ q. record { first = λ z. refl; later = λ z. absurd (true≢false z) }) (c .turns) (omega (arith, ap length (c .whole))) e
+      → datagramFault file ≡ 0 → Fed ByStep σ (all is) τ → Given 0 σ is τ
+  given σ file is τ i c fits v e =
+      arrival 0 true σ is τ i (λ q. record { first = λ z. refl; later = λ z. absurd (true≢false z) }) (c .turns) (omega (arith, ap length (c .whole)))
+      (ap datagramFault (c .whole) ∙ v) e
 
 -- ---- frames with nothing between them
 pub all-file : (xs : List Exchange) → all (fileFrames xs) ≡ xs
@@ -111,11 +127,11 @@ own-file (x ∷ xs) = ap (λ (l : List Exchange). x ∷ l) (own-file xs)
 
 -- at a newly opened receiver
 alone-counted : (session limit : ℕ) (file b : List ℕ) (alone : List Exchange) (ρ : Side) → Carried session limit file (framesOf alone) → length file ≤ length b
-    → Steps session limit b alone ρ → alone ≡ counts 0 (framesOf alone)
-alone-counted session limit file b alone ρ c fits s =
+    → datagramFault file ≡ 0 → Steps session limit b alone ρ → alone ≡ counts 0 (framesOf alone)
+alone-counted session limit file b alone ρ c fits v s =
     subst (λ (l : List Exchange). l ≡ counts 0 (framesOf l)) (own-file alone)
     (given session limit (length b) (side (s .0) b) file (fileFrames alone) ρ (fit-opened session limit (s .0) b (s .1))
-    (subst (λ (l : List Exchange). Carried session limit file (framesOf l)) (sym (own-file alone)) c) fits
+    (subst (λ (l : List Exchange). Carried session limit file (framesOf l)) (sym (own-file alone)) c) fits v
     (subst (λ (l : List Exchange). Fed ByStep (side (s .0) b) l ρ) (sym (all-file alone)) (s .2)) .counted)
 
 -- ---- the last answer
@@ -148,13 +164,14 @@ pub delivered : (session limit : ℕ) (b : List ℕ) (before : List Exchange) (�
 unfolding over
 delivered session limit b before σ file is τ s a e =
     let i : FitFor session limit (length b) σ = fit-fed session limit (length b) (side (s .0) b) before σ (s .2) (fit-opened session limit (s .0) b (s .1)) in
-    let g = given session limit (length b) σ file is τ i (a .carried) (a .fits) e in
+    let g = given session limit (length b) σ file is τ i (a .carried) (a .fits) (a .datagram) e in
+    let long = datagram-length file (a .datagram) in
     record {
       as-new = λ d alone ρ fits new same.
           g .counted
           ∙ ap (counts 0) (sym same)
-          ∙ sym (alone-counted session limit file d alone ρ (subst (Carried session limit file) (sym same) (a .carried)) fits new);
+          ∙ sym (alone-counted session limit file d alone ρ (subst (Carried session limit file) (sym same) (a .carried)) fits (a .datagram) new);
       counted = g .counted;
-      complete = subst (EndsWith (Complete (length file))) (sym (g .counted)) (last-count (framesOf (own is)) file (a .carried .whole) (a .some));
+      complete = subst (EndsWith (Complete (length file))) (sym (g .counted)) (last-count (framesOf (own is)) file (a .carried .whole) (omega arith));
       bytes = g .stored ∙ ap (sets (σ .buffer) 0) (a .carried .whole) ∙ sets-over (σ .buffer) file (omega (arith, a .fits, i .room));
     }

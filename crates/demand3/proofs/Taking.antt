@@ -10,13 +10,14 @@ use borrow.Author.Tests.{ltb-false, eqb-true, not-true, not-false, le-ltb, eq-eq
 use lib.Dec.{eqb, ltb}
 use lib.ListN.{length, take, drop, length-append}
 use lib.Seq.{sets, length-sets, sets-eq, take-at, length-take-le, drop-append-add, drop-drop}
-use Rattle.wire.specs.Refusal.{first}
+use Rattle.wire.specs.Refusal.{first, NoneHolds}
 use Rattle.wire.proofs.Answer.{accepted-as}
-use Rattle.wire.proofs.Refusal.{first-none, none-first, none-append, none-both}
+use Rattle.wire.proofs.Refusal.{first-none, none-first, none-append, none-both, asked, unasked}
 use Rattle.sm160_frame.specs.Layout.{sessionOf, offsetOf, partOf, isStart, isEnd}
 use Rattle.sm160_frame.specs.Reading.{badLargest, frameRules, frameFault}
 use Rattle.sm160_frame.proofs.Limit.{part-within}
-use Rattle.sm160_receiver.specs.Receiving.{opened, openRules, opening, toldOpening, reached, unfit, placeRules, receiveRules, refusal, reply, stateAfter, After, Took}
+use Rattle.sm160_datagram.specs.Reading.{datagramRules, datagramFault}
+use Rattle.sm160_receiver.specs.Receiving.{opened, openRules, opening, toldOpening, reached, unfit, placeRules, fileWith, fileRules, upTo31, receiveRules, refusal, reply, stateAfter, After, Took}
 use Rattle.sm160_receiver.specs.declared.Receiver.{Receiver}
 use Rattle.sm160_receiver.specs.declared.Opening.the-variants.{Ready, Refused as Unopened}
 use Rattle.sm160_receiver.specs.declared.Answer.the-variants.{Complete, Refused}
@@ -61,16 +62,19 @@ pub record Taken (σ : Side) (f : List ℕ) : Type 0 where
   pub at-start : isStart f ≡ true → offsetOf f ≡ 0
   pub at-count : isStart f ≡ false → offsetOf f ≡ σ .state .count
   pub room : reached f ≤ length (σ .buffer)
+  pub whole : isEnd f ≡ true → datagramFault (fileWith (σ .buffer) f) ≡ 0
 
 taken-of : (σ : Side) (f : List ℕ) → refusal (σ .state) (σ .buffer) f ≡ 0 → Taken σ f
-unfolding refusal frameFault
+unfolding refusal frameFault datagramFault
 taken-of σ f e =
     let s = σ .state in
     let h = none-first (receiveRules s (σ .buffer) f) tt e in
-    let both = none-append (frameRules (s .limit) f) (placeRules s (σ .buffer) f) (h .1) in
+    let files = fileRules (σ .buffer) f in
+    let all = none-append (upTo31 s (σ .buffer) f) files h in
+    let both = none-append (frameRules (s .limit) f) (placeRules s (σ .buffer) f) (all .0 .1) in
     let p = both .1 in
     record {
-      fit = h .0;
+      fit = all .0 .0;
       good = first-none (frameRules (s .limit) f) (both .0);
       ours = eqb-true _ _ (not-false _ (p .0));
       going = λ q. not-false _ (rw q at (p .1 .0));
@@ -80,7 +84,14 @@ taken-of σ f e =
           let hi : offsetOf f ≤ s .count = ltb-false _ _ (rw q at (p .1 .1 .1 .1 .0)) in
           omega arith;
       room = ltb-false _ _ (p .1 .1 .1 .1 .1 .0);
+      whole = λ q. sym (asked (isEnd f) (datagramRules (fileWith (σ .buffer) f)) q) ∙ first-none files (all .1);
     }
+
+-- a file that is a datagram wherever it is asked
+of-whole : (b f : List ℕ) (end : Bool) → isEnd f ≡ end → (isEnd f ≡ true → datagramFault (fileWith b f) ≡ 0) → NoneHolds (fileRules b f)
+unfolding datagramFault
+of-whole b f true e h = none-first (fileRules b f) tt (asked (isEnd f) (datagramRules (fileWith b f)) e ∙ h e)
+of-whole b f false e h = unasked (isEnd f) (datagramRules (fileWith b f)) e
 
 of-taken : (σ : Side) (f : List ℕ) → Taken σ f → refusal (σ .state) (σ .buffer) f ≡ 0
 unfolding refusal frameFault
@@ -91,11 +102,10 @@ of-taken σ f t =
     let not-28 = and-no (isStart f) (not (eqb at 0)) (λ q. ap not (eq-eqb _ _ (t .at-start q))) in
     let not-29 = and-no (not (isStart f)) (ltb at (s .count)) (λ q. let z = t .at-count (not-true _ q) in le-ltb at (s .count) (omega arith)) in
     let not-30 = and-no (not (isStart f)) (ltb (s .count) at) (λ q. let z = t .at-count (not-true _ q) in le-ltb (s .count) at (omega arith)) in
-    first-none (receiveRules s (σ .buffer) f) (
-      t .fit,
-      none-both (frameRules (s .limit) f) (placeRules s (σ .buffer) f) (none-first (frameRules (s .limit) f) tt (t .good))
-          (ap not (eq-eqb _ _ (t .ours)), (not-27, (not-28, (not-29, (not-30, (le-ltb _ _ (t .room), tt)))))),
-    )
+    let up-to-31 = none-both (frameRules (s .limit) f) (placeRules s (σ .buffer) f) (none-first (frameRules (s .limit) f) tt (t .good))
+    (ap not (eq-eqb _ _ (t .ours)), (not-27, (not-28, (not-29, (not-30, (le-ltb _ _ (t .room), tt)))))) in
+    first-none (receiveRules s (σ .buffer) f)
+    (none-both (upTo31 s (σ .buffer) f) (fileRules (σ .buffer) f) (t .fit, up-to-31) (of-whole (σ .buffer) f (isEnd f) refl (t .whole)))
 
 -- ---- one frame: the two ways
 
@@ -171,7 +181,7 @@ keeps-next σ x τ e =
 -- ---- a receiver of a session and a limit that is fit for its buffer, of m bytes, stays so
 
 -- a good frame's part has a byte or more, so it reaches beyond 0
-pub reaches : (limit : ℕ) (f : List ℕ) → frameFault limit f ≡ 0 → 0 < reached f
+reaches : (limit : ℕ) (f : List ℕ) → frameFault limit f ≡ 0 → 0 < reached f
 unfolding reached
 reaches limit f e = omega (arith, part-within limit f e .0)
 

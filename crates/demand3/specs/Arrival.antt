@@ -6,6 +6,7 @@ use mathlib.Core.List.{List, [], _∷_, _++_, map}
 use lib.ListN.{length, drop}
 use Rattle.sm160_frame.specs.Layout.{partOf}
 use Rattle.sm160_frame.specs.Carried.{none, Carried}
+use Rattle.sm160_datagram.specs.Reading.{datagramFault}
 use Rattle.sm160_receiver.specs.Receiving.{reply}
 use Rattle.sm160_receiver.specs.declared.Answer.the-variants.{Complete, Refused}
 use Rattle.demand3.specs.Feeding.{Side, Exchange, exchange, framesOf, EndsWith}
@@ -29,11 +30,12 @@ own [] = []
 own (fileFrame x ∷ is) = x ∷ own is
 own (otherFrame f n ∷ is) = own is
 
--- "Demand 3 then speaks of parts up to that limit": the file arrives in the session, for a receiver that was opened with the limit and lent the
+-- "Demand 3 then speaks of parts up to that limit", and of "a well-formed datagram, one that meets none of 37 to 39, so demand 3 speaks of such
+-- files": the file arrives in the session, for a receiver that was opened with the limit and lent the
 -- buffer b, among the items: so with only refused frames between.
 pub record Arrives (session limit : ℕ) (file b : List ℕ) (is : List Item) : Type 0 where
-  -- a file of 1 byte or more
-  pub some : 1 ≤ length file
+  -- a well-formed datagram, and so of 18 bytes or more
+  pub datagram : datagramFault file ≡ 0
   -- fitting the buffer; that it fits the offset field is in `carried`, where each part's place is its frame's offset
   pub fits : length file ≤ length b
   -- cut anywhere into parts of 1 byte up to the limit (with it no other part is good, rule 23), in order, in frames good by 01 and of the

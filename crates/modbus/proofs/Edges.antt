@@ -3,7 +3,7 @@
 use mathlib.Core.Path.{_≡_, refl}
 use lib.Dec.{T}
 use lib.ListN.{length, replicate}
-use Rattle.checksum.specs.Crc.{crcFrom, crcBits}
+use Rattle.checksum.specs.Crc.{remainder, crcBits}
 use Rattle.wire.specs.Numbers.{le, ofLe, be, ofBe, digits, number, field}
 use Rattle.wire.specs.Refusal.{first, pick}
 use Rattle.modbus.specs.Envelope.{message, bytesOf, writeRules}
@@ -14,7 +14,7 @@ use Rattle.modbus.specs.Printed.{allRead, printed}
 -- under 4 and above 256 bytes; between, zeros have a wrong CRC
 pub rtu-lengths :
     (first (rtuRules (replicate 3 0)) ≡ 40) × (first (rtuRules (replicate 4 0)) ≡ 44) × (first (rtuRules (replicate 256 0)) ≡ 44) × (first (rtuRules (replicate 257 0)) ≡ 41)
-unfolding pick ofLe number field crcFrom crcBits
+unfolding pick ofLe number field remainder crcBits
 rtu-lengths = (refl, refl, refl, refl)
 
 -- under 8 and above 260 bytes; between, zeros have a wrong length

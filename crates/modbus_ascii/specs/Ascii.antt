@@ -51,7 +51,7 @@ badCharacters s = not (allDigits (inside s)) || not (eqb (length (inside s) % 2)
 abbrev pub badLrc : List ℕ → Bool
 badLrc s = not (eqb (sumFrom 0 (ofHex (inside s))) 0)
 
--- "in that order"
+-- "64 LRC; in that order"
 abbrev pub asciiRules : List ℕ → List Rule
 asciiRules s =
     60 when asciiShort s

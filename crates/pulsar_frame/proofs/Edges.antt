@@ -1,7 +1,7 @@
 -- The edges of a frame, computed.
 -- Assumes nothing.
 use mathlib.Core.Path.{refl}
-use Rattle.checksum.specs.Crc.{crcFrom, crcBits}
+use Rattle.checksum.specs.Crc.{remainder, crcBits}
 use Rattle.wire.specs.Numbers.{field, digits, number, le, ofLe, bcd, ofBcd, isBcd}
 use Rattle.wire.specs.Refusal.{pick}
 use Rattle.wire.specs.Told.{AllHold}
@@ -10,9 +10,9 @@ use Rattle.pulsar_frame.specs.Reading.{readAtMeter}
 use Rattle.pulsar_frame.specs.Edges.{frameEdges, frameBeside}
 
 pub frame-edges : AllHold frameEdges
-unfolding readAtMeter crcFrom crcBits field isBcd ofBcd ofLe number pick
+unfolding readAtMeter remainder crcBits field isBcd ofBcd ofLe number pick
 frame-edges = (refl, (refl, (refl, (refl, (refl, tt)))))
 
 pub frame-beside : AllHold frameBeside
-unfolding readAtMeter frameBytes frameBody crcFrom crcBits field isBcd ofBcd bcd le digits ofLe number pick
+unfolding readAtMeter frameBytes frameBody remainder crcBits field isBcd ofBcd bcd le digits ofLe number pick
 frame-beside = (refl, (refl, tt))

@@ -1,14 +1,17 @@
--- The frames that document 001 prints in its traffic, each the data of a function 45 packet, and the rules for the CRC16 that its text or 01
--- might be read to give.
+-- The frames that document 001 prints in its traffic, each the data of a function 45 packet, the four datagrams that they carry, and the rules for
+-- the CRC16 and the CRC-32 that its text, 01 or 02 might be read to give.
 -- Assumes nothing.
-use Prim.Native.Nat.{ℕ, zero, suc, _+_, _*_, _/_, _%_}
+use Prim.Native.Nat.{ℕ, zero, suc, _+_, _-_, _*_, _/_, _%_}
 use mathlib.Core.Bool.{cond}
 use mathlib.Core.List.{List, [], _∷_, _++_}
 use lib.Bits.{bitXor}
 use lib.Dec.{eqb}
-use lib.ListN.{take, drop}
-use Rattle.checksum.specs.Crc.{crcFrom}
-use Rattle.sm160_frame.specs.Layout.{crcOf, partOf}
+use lib.ListN.{length, take, drop}
+use Rattle.checksum.specs.Crc.{crcFrom, remainder}
+use Rattle.checksum.specs.Crc32.{CRC32, turned, crc32}
+use Rattle.sm160_frame.specs.Layout.{partOf}
+use Rattle.sm160_frame.specs.Carried.{joined}
+use Rattle.sm160_datagram.specs.Layout.{coveredOf, dataOf}
 
 -- 1) request: agree the frame size (QA, START, END)
 abbrev pub agreeRequest : List ℕ
@@ -71,13 +74,23 @@ reply277 =
     0x41 ∷ 0x49 ∷ 0x22 ∷ 0x20 ∷ 0x56 ∷ 0x3d ∷ 0x22 ∷ 0x30 ∷ 0x22 ∷ 0x20 ∷ 0x45 ∷ 0x3d ∷ 0x22 ∷ 0x34 ∷ 0x31 ∷ 0x36 ∷ 0x22 ∷ 0x20 ∷
     0x2f ∷ 0x3e ∷ 0x0a ∷ 0x00 ∷ 0x00 ∷ 0xda ∷ 0x00 ∷ 0x00 ∷ 0x00 ∷ 0x00 ∷ 0x00 ∷ 0x00 ∷ 0x00 ∷ 0x01 ∷ 0x86 ∷ 0x40 ∷ 0x21 ∷ []
 
-abbrev pub printed : List (List ℕ)
-printed = agreeRequest ∷ agreeReply ∷ readRequest ∷ readRequestEnd ∷ reply73 ∷ reply141 ∷ reply209 ∷ reply277 ∷ []
+abbrev pub reply : List (List ℕ)
+reply = reply73 ∷ reply141 ∷ reply209 ∷ reply277 ∷ []
 
--- the number of frames whose CRC16 is what a rule gives
-unfoldable pub agreeing : (List ℕ → ℕ) → List (List ℕ) → ℕ
-agreeing rule [] = 0
-agreeing rule (f ∷ fs) = cond (eqb (crcOf f) (rule f)) 1 0 + agreeing rule fs
+abbrev pub printed : List (List ℕ)
+printed = agreeRequest ∷ agreeReply ∷ readRequest ∷ readRequestEnd ∷ reply
+
+-- the datagrams that they carry: the agreement's request and its reply, the request for a file and its reply
+abbrev pub datagrams : List (List ℕ)
+datagrams =
+    joined (agreeRequest ∷ []) ∷ joined (agreeReply ∷ []) ∷ joined (readRequest ∷ readRequestEnd ∷ []) ∷ joined reply ∷ []
+
+-- in how many what is told, which is a checksum, is what a rule gives
+unfoldable pub agreeing : (List ℕ → ℕ) → (List ℕ → ℕ) → List (List ℕ) → ℕ
+agreeing told rule [] = 0
+agreeing told rule (f ∷ fs) = cond (eqb (told f) (rule f)) 1 0 + agreeing told rule fs
+
+-- ---- readings of the CRC16
 
 -- 01's first reading: over the part, from FFFF; the same from 0000
 abbrev pub overPart : ℕ → List ℕ → ℕ
@@ -105,3 +118,38 @@ ccittFrom c (b ∷ bs) = ccittFrom (ccittBits 8 (bitXor c (b * 256))) bs
 
 abbrev pub ccitt : ℕ → ℕ → List ℕ → ℕ
 ccitt start place f = ccittFrom start (zeroed place f)
+
+-- ---- readings of the CRC-32
+
+-- over all before it, and so over the data length too
+abbrev pub overLength : List ℕ → ℕ
+overLength d = crc32 (take (length d - 4) d)
+
+-- over the options and the data, and over the data alone
+abbrev pub overOptions : List ℕ → ℕ
+overOptions d = crc32 (drop 6 (coveredOf d))
+
+abbrev pub overData : List ℕ → ℕ
+overData d = crc32 (dataOf d)
+
+-- from 0, and without the final change
+abbrev pub fromZero : List ℕ → ℕ
+fromZero d = turned (remainder CRC32 0 (coveredOf d))
+
+abbrev pub unturned : List ℕ → ℕ
+unturned d = remainder CRC32 0xFFFFFFFF (coveredOf d)
+
+-- the same polynomial highest bit first, 04C11DB7
+abbrev pub highBit : ℕ → ℕ
+highBit c = bitXor (c * 2 % 4294967296) (c / 2147483648 * 0x04C11DB7)
+
+unfoldable pub highBits : ℕ → ℕ → ℕ
+highBits zero c = c
+highBits (suc n) c = highBits n (highBit c)
+
+unfoldable pub highFrom : ℕ → List ℕ → ℕ
+highFrom c [] = c
+highFrom c (b ∷ bs) = highFrom (highBits 8 (bitXor c (b * 16777216))) bs
+
+abbrev pub highFirst : List ℕ → ℕ
+highFirst d = turned (highFrom 0xFFFFFFFF (coveredOf d))

@@ -5,13 +5,14 @@ use mathlib.Core.Path.{_≡_}
 use mathlib.Core.Bool.{Bool, true, false, cond, not, _||_, _&&_}
 use mathlib.Core.List.{List, [], _∷_, _++_}
 use lib.Dec.{ltb, eqb}
-use lib.ListN.{length}
+use lib.ListN.{length, take}
 use lib.Seq.{sets}
-use Rattle.wire.specs.Refusal.{Rule, _when_, first}
+use Rattle.wire.specs.Refusal.{Rule, _when_, first, askedIf}
 use Rattle.wire.specs.Answer.{answered}
 use Rattle.wire.specs.Told.{Told, accepted, refused}
 use Rattle.sm160_frame.specs.Layout.{sessionOf, offsetOf, partOf, isStart, isEnd}
 use Rattle.sm160_frame.specs.Reading.{badLargest, frameRules}
+use Rattle.sm160_datagram.specs.Reading.{datagramRules}
 use Rattle.sm160_receiver.specs.declared.Receiver.{Receiver}
 use Rattle.sm160_receiver.specs.declared.Opening.{Opening}
 use Rattle.sm160_receiver.specs.declared.Opening.the-variants.{Ready, Refused as Unopened}
@@ -72,8 +73,7 @@ aboveCount s f = not (isStart f) && ltb (s .count) (offsetOf f)
 abbrev pub beyondBuffer : List ℕ → List ℕ → Bool
 beyondBuffer b f = ltb (length b) (reached f)
 
--- "Order is by number", at a receiver s with the buffer b: 20, then 21 to 25 of the frame by itself, "23 for a part above the kept limit",
--- then 26 to 31
+-- where the receiver stands
 abbrev pub placeRules : Receiver → List ℕ → List ℕ → List Rule
 placeRules s b f =
     26 when otherSession s f
@@ -84,8 +84,21 @@ placeRules s b f =
     ∷ 31 when beyondBuffer b f
     ∷ []
 
+-- the file that a last frame would end: the bytes held, and its part
+abbrev pub fileWith : List ℕ → List ℕ → List ℕ
+fileWith b f = take (offsetOf f) b ++ partOf f
+
+-- "The receiver now completes only a well-formed datagram, one that meets none of 37 to 39": they are asked with END only
+abbrev pub fileRules : List ℕ → List ℕ → List Rule
+fileRules b f = askedIf (isEnd f) (datagramRules (fileWith b f))
+
+-- "Order is by number", at a receiver s with the buffer b: 20, then 21 to 25 of the frame by itself, "23 for a part above the kept limit",
+-- then 26 to 31; and "after 31, in that order", 37 to 39
+abbrev pub upTo31 : Receiver → List ℕ → List ℕ → List Rule
+upTo31 s b f = 20 when unfit s b ∷ (frameRules (s .limit) f ++ placeRules s b f)
+
 abbrev pub receiveRules : Receiver → List ℕ → List ℕ → List Rule
-receiveRules s b f = 20 when unfit s b ∷ (frameRules (s .limit) f ++ placeRules s b f)
+receiveRules s b f = upTo31 s b f ++ fileRules b f
 
 -- the number of the first that holds, 0 for none
 unfoldable pub refusal : Receiver → List ℕ → List ℕ → ℕ
@@ -97,7 +110,8 @@ pub record After : Type 0 where
   pub state : Receiver
   pub buffer : List ℕ
 
--- "Each returns its number and leaves every buffer and state untouched."
+-- "Each returns its number and leaves every buffer and state untouched." So "A refused last frame isn't stored, and a file that was under way
+-- stays so."
 abbrev pub refuse : ℕ → Receiver → List ℕ → After
 refuse n s b = record { answer = Refused n; state = s; buffer = b }
 

@@ -24,6 +24,7 @@ ghost use Rattle.sm160_receiver.specs.Receiving.{
   aboveCount,
   beyondBuffer,
   placeRules,
+  upTo31,
   refusal,
   reply,
   stateAfter,
@@ -157,7 +158,7 @@ fn place_fault(state: Receiver, buffer: &[u8], frame: &[u8]) -> u8
 
 // The first rule of 20 to 31 that holds, 0 for none.
 fn fault(state: Receiver, buffer: &[u8], frame: &[u8]) -> u8
-    ensures { λ r. ⌜ r ≡ refusal state (now (buffer .entry)) (now (frame .entry)) ⌝ }
+    ensures { λ r. ⌜ r ≡ first (upTo31 state (now (buffer .entry)) (now (frame .entry))) ⌝ }
 {
     if is_unfit(state, buffer) {
         return 20;
@@ -167,6 +168,19 @@ fn fault(state: Receiver, buffer: &[u8], frame: &[u8]) -> u8
         return by_itself;
     }
     place_fault(state, buffer, frame)
+}
+
+// After them the first rule of 37 to 39 that the file breaks which a last frame would end, 0 for none. The held bytes and the part are judged where
+// they stand.
+fn file_fault(state: Receiver, buffer: &[u8], frame: &[u8]) -> u8
+    requires { ⌜ first (upTo31 state (now buffer) (now frame)) ≡ 0 ⌝ }
+    ensures { λ r. ⌜ r ≡ refusal state (now (buffer .entry)) (now (frame .entry)) ⌝ }
+{
+    if sm160_frame::is_end(frame) {
+        let held = wire::front(buffer, sm160_frame::offset_of(frame) as usize);
+        return sm160_datagram::datagram_fault(held, sm160_frame::part_of(frame));
+    }
+    0
 }
 
 fn reply_to(ends: bool, reached: usize) -> Answer
@@ -225,6 +239,13 @@ pub fn receive(state: Receiver, frame: &[u8], buffer: &mut [u8]) -> Received
     if number != 0 {
         return Received {
             answer: Answer::Refused(number),
+            state,
+        };
+    }
+    let of_file = file_fault(state, buffer, frame);
+    if of_file != 0 {
+        return Received {
+            answer: Answer::Refused(of_file),
             state,
         };
     }

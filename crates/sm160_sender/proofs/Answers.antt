@@ -1,12 +1,13 @@
 -- What the sender owes: at a refusal, and at none with what writing the frame has done.
 -- Assumes nothing.
 use mathlib.Core.Path.{_≡_, sym, ap, ap₂, _∙_}
+use mathlib.Core.Bool.{false}
 use mathlib.Core.List.{List}
 use Prim.Native.Nat.{ℕ, _+_, _-_}
 use lib.Dec.{eqb}
 use lib.ListN.{length}
 use Rattle.wire.specs.Numbers.{over}
-use Rattle.wire.specs.Refusal.{first, NoneHolds}
+use Rattle.wire.specs.Refusal.{first}
 use Rattle.wire.specs.Writes.{Writes, writeOutput}
 use Rattle.wire.specs.declared.Written.{Written}
 use Rattle.wire.proofs.Answer.{answers-refused, answers-accepted}
@@ -15,10 +16,10 @@ use Rattle.sm160_frame.specs.Layout.{frameBytes}
 use Rattle.sm160_frame.specs.Reading.{LARGEST}
 use Rattle.sm160_frame.specs.Writing.{writeRules}
 use Rattle.sm160_frame.proofs.Stores.{length-frame}
-use Rattle.sm160_sender.specs.Sending.{partAt, nextPlace, remainsAt, flagsFor, flagsAt, sentBytes, sendRules, Sends}
+use Rattle.sm160_sender.specs.Sending.{partAt, nextPlace, remainsAt, flagsFor, flagsAt, sentBytes, noRoom, sendRules, Sends}
 use Rattle.sm160_sender.specs.declared.Sent.{Sent}
 use Rattle.sm160_sender.specs.declared.Sent.the-variants.{Frame, Refused}
-use Rattle.sm160_sender.proofs.Parts.{Sendable, sendable, good-part, flagged}
+use Rattle.sm160_sender.proofs.Parts.{Sendable, may-send, good-part, flagged}
 
 -- number is what the code's judge answered
 module _ (file : List ℕ) (session largest place : ℕ) (out : List ℕ) (number : ℕ) (judged : number ≡ first (sendRules file largest place (length out))) where
@@ -36,17 +37,17 @@ module _ (file : List ℕ) (session largest place : ℕ) (out : List ℕ) (numbe
       }
 
   module _ (z : number ≡ 0) where
-    rules : NoneHolds (sendRules file largest place (length out))
-    rules = none-first (sendRules file largest place (length out)) tt (sym judged ∙ z)
+    ready : Sendable file largest place × (noRoom file largest place (length out) ≡ false)
+    ready = may-send file largest place (length out) (none-first (sendRules file largest place (length out)) tt (sym judged ∙ z))
 
-    pub may-send : Sendable file largest place
-    may-send = sendable file largest place (rules .0) (rules .1 .0) (rules .1 .1 .0)
+    pub able : Sendable file largest place
+    able = ready .0
 
     -- the writer of the frame refuses nothing
     pub writable : first (writeRules (flagsAt file largest place) (partAt file largest place) out) ≡ 0
     writable =
         first-none (writeRules (flagsAt file largest place) (partAt file largest place) out)
-        (good-part file largest place may-send LARGEST (may-send .most), (flagged (eqb place 0) (eqb (remainsAt file largest place) 0) .good, (rules .1 .1 .1 .0, tt)))
+        (good-part file largest place able LARGEST (able .most), (flagged (eqb place 0) (eqb (remainsAt file largest place) 0) .good, (ready .1, tt)))
 
     pub sends-frame : (part : List ℕ) (remains flags : ℕ) (r : Written) (out′ : List ℕ)
         → part ≡ partAt file largest place → remains ≡ length file - (place + length part) → flags ≡ flagsFor (eqb place 0) (eqb remains 0)

@@ -9,29 +9,45 @@ use native.Mathlib.Omega.{arith}
 use lib.Dec.{ltb, eqb}
 use lib.ListN.{length, drop, length-take, length-drop}
 use borrow.Author.Tests.{ltb-false, leb-false, ne-eqb, le-ltb}
+use Rattle.wire.specs.Refusal.{NoneHolds}
 use Rattle.wire.proofs.Bools.{or-neither, neither-or}
 use Rattle.sm160_frame.specs.Layout.{START, END, has}
 use Rattle.sm160_frame.specs.Reading.{LARGEST, badLargest, badPart, badFlags}
 use Rattle.sm160_frame.proofs.Limit.{largest-from}
-use Rattle.sm160_sender.specs.Sending.{partAt, nextPlace, flagsFor, badFile, pastEnd}
+use Rattle.sm160_datagram.specs.Reading.{datagramFault}
+use Rattle.sm160_datagram.proofs.Order.{datagram-none, none-datagram}
+use Rattle.sm160_sender.specs.Sending.{partAt, nextPlace, flagsFor, badFile, pastEnd, noRoom, placeRules, sendRules}
 
--- what the sender has found where it does not refuse by 32, 33 or 34
+-- what the sender has found where it does not refuse by 32 to 39
 pub record Sendable (file : List ℕ) (largest place : ℕ) : Type 0 where
   pub small : length file ≤ 4294967295
   pub least : 1 ≤ largest
   pub most : largest ≤ LARGEST
+  pub whole : datagramFault file ≡ 0
   pub inside : place < length file
 
 module _ (file : List ℕ) (largest place : ℕ) where
-  pub sendable : badFile file ≡ false → badLargest largest ≡ false → pastEnd file place ≡ false → Sendable file largest place
-  sendable a b c =
+  pub sendable : badFile file ≡ false → badLargest largest ≡ false → datagramFault file ≡ 0 → pastEnd file place ≡ false → Sendable file largest place
+  sendable a b d c =
       let l = largest-from largest b in
       record {
         small = ltb-false 4294967295 (length file) (or-neither (eqb (length file) 0) (ltb 4294967295 (length file)) a .1);
         least = l .0;
         most = l .1;
+        whole = d;
         inside = leb-false (length file) place c;
       }
+
+  -- none of its rules holds: so it may, and there is room; and back
+  module _ (room : ℕ) where
+    pub may-send : NoneHolds (sendRules file largest place room) → Sendable file largest place × (noRoom file largest place room ≡ false)
+    may-send h =
+        let d = datagram-none file (placeRules file largest place room) (h .1 .1) in
+        (sendable (h .0) (h .1 .0) (d .0) (d .1 .0), d .1 .1 .0)
+
+    pub sends-none : badFile file ≡ false → badLargest largest ≡ false → datagramFault file ≡ 0 → pastEnd file place ≡ false → noRoom file largest place room ≡ false
+        → NoneHolds (sendRules file largest place room)
+    sends-none a b d c e = (a, (b, none-datagram file (placeRules file largest place room) d (c, (e, tt))))
 
   pub length-part : Sendable file largest place
       → (1 ≤ length (partAt file largest place)) × (length (partAt file largest place) ≤ largest) × (nextPlace file largest place ≤ length file)

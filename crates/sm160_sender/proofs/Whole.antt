@@ -1,4 +1,5 @@
--- A file sent from place 0 on, by the answered places, is carried by good frames; and every file of 1 to 4,294,967,295 bytes can be sent so.
+-- A file sent from place 0 on, by the answered places, is a datagram and is carried by good frames; and every datagram of up to 4,294,967,295 bytes
+-- can be sent so.
 -- Assumes nothing.
 use mathlib.Core.Path.{_≡_, refl, sym, ap, ap₂, _∙_, subst}
 use mathlib.Core.Bool.{Bool, true, false}
@@ -12,18 +13,19 @@ use borrow.Author.Tests.{eq-eqb, ne-eqb, eqb-true, eqb-false, le-ltb, lt-leb}
 use Rattle.wire.specs.Each.{Bytes}
 use Rattle.wire.specs.Numbers.{over}
 use Rattle.wire.specs.Answer.{answered}
-use Rattle.wire.specs.Refusal.{first, NoneHolds}
+use Rattle.wire.specs.Refusal.{first}
 use Rattle.wire.proofs.Answer.{answered-none, accepted-as}
 use Rattle.wire.proofs.Each.{each-drop, each-take}
 use Rattle.wire.proofs.Refusal.{first-none, none-first}
 use Rattle.sm160_frame.specs.Layout.{START, END, has, partOf, isStart, isEnd}
 use Rattle.sm160_frame.specs.Reading.{badLargest}
+use Rattle.sm160_datagram.specs.Reading.{datagramFault}
 use Rattle.sm160_frame.specs.Carried.{Carries, none, InTurn, joined, Carried}
 use Rattle.sm160_frame.proofs.Bytes.{made-session, made-offset, made-flags, made-part, made-good}
 use Rattle.sm160_sender.specs.Sending.{partAt, nextPlace, remainsAt, flagsAt, sentBytes, badFile, pastEnd, noRoom, sendRules, Sends, toldSent}
 use Rattle.sm160_sender.specs.Whole.{Call, SentInTurn, sentFrames}
 use Rattle.sm160_sender.specs.declared.Sent.the-variants.{Frame, Refused}
-use Rattle.sm160_sender.proofs.Parts.{Sendable, sendable, length-part, good-part, flagged}
+use Rattle.sm160_sender.proofs.Parts.{Sendable, sendable, may-send, sends-none, length-part, good-part, flagged}
 
 take-then-drop : (n : ℕ) (xs : List ℕ) → take n xs ++ drop (length (take n xs)) xs ≡ xs
 take-then-drop zero xs = refl
@@ -50,9 +52,8 @@ module _ (file : List ℕ) (session largest : ℕ) where
       let rules = sendRules file largest place (length out) in
       let bs = sentBytes file session largest place in
       let ok = accepted (first rules) bs (nextPlace file largest place) l next (w .answer) in
-      let h = none-first rules tt (ok .0) in
       record {
-        able = sendable file largest place (h .0) (h .1 .0) (h .1 .1 .0);
+        able = may-send file largest place (length out) (none-first rules tt (ok .0)) .0;
         frame =
             ap₂ (λ (n : ℕ) (o : List ℕ). take n o) (ok .1) (w .output ∙ answered-none (λ _. out) (over out bs) _ (ok .0))
             ∙ take-append-seam bs (drop (length bs) out);
@@ -126,19 +127,24 @@ module _ (file : List ℕ) (session largest : ℕ) where
         let all = from-place 0 cs h in
         record { whole = all .0; turns = all .1 }
 
-  -- ---- every file can be sent so, with one output of 252 bytes or more lent to every call
-  module _ (out : List ℕ) (good-file : badFile file ≡ false) (good-largest : badLargest largest ≡ false) (room : 252 ≤ length out) where
+  -- A file of which a frame was sent is a datagram.
+  pub sent-datagram : (cs : List Call) → 1 ≤ length file → SentInTurn file session largest 0 cs → datagramFault file ≡ 0
+  unfolding SentInTurn
+  sent-datagram [] some h = absurd (omega arith)
+  sent-datagram (c ∷ cs) some h = wrote 0 (c .lent) (c .size) (c .next) (c .after) (h .0) .able .whole
+
+  -- ---- every datagram can be sent so, with one output of 252 bytes or more lent to every call
+  module _ (out : List ℕ) (good-file : badFile file ≡ false) (good-largest : badLargest largest ≡ false) (datagram : datagramFault file ≡ 0) (room : 252 ≤ length out) where
     call : (place : ℕ) → place < length file
         → Sends file session largest place out (Frame (length (sentBytes file session largest place)) (nextPlace file largest place)) (over out (sentBytes file session largest place))
     call place inside =
         let bs = sentBytes file session largest place in
         let within : pastEnd file place ≡ false = lt-leb (length file) place inside in
-        let g = sendable file largest place good-file good-largest within in
+        let g = sendable file largest place good-file good-largest datagram within in
         let n = length-part file largest place g in
         let enough : noRoom file largest place (length out) ≡ false =
         le-ltb (length out) (length (partAt file largest place) + 12) (omega (arith, n .1, g .most)) in
-        let none-holds : NoneHolds (sendRules file largest place (length out)) = (good-file, (good-largest, (within, (enough, tt)))) in
-        let z = first-none (sendRules file largest place (length out)) none-holds in
+        let z = first-none (sendRules file largest place (length out)) (sends-none file largest place (length out) good-file good-largest datagram within enough) in
         record {
           answer = sym (answered-none Refused (Frame (length bs) (nextPlace file largest place)) _ z);
           output = sym (answered-none (λ _. out) (over out bs) _ z);
@@ -163,7 +169,7 @@ module _ (file : List ℕ) (session largest : ℕ) where
     calls-from (suc n) place h few =
         calls-at place h
         (λ inside.
-        let g = sendable file largest place good-file good-largest (lt-leb (length file) place inside) in
+        let g = sendable file largest place good-file good-largest datagram (lt-leb (length file) place inside) in
         let k = length-part file largest place g in
         calls-from n (nextPlace file largest place) (k .2) (omega (arith, k .0)))
         (eqb place (length file)) refl

@@ -3,7 +3,7 @@
 use Prim.Native.Nat.{ℕ, _+_, _-_}
 use mathlib.Core.Path.{_≡_}
 use mathlib.Core.Bool.{Bool, cond, _||_}
-use mathlib.Core.List.{List, [], _∷_}
+use mathlib.Core.List.{List, [], _∷_, _++_}
 use lib.Dec.{ltb, leb, eqb}
 use lib.ListN.{length, take, drop}
 use Rattle.wire.specs.Refusal.{Rule, _when_, first}
@@ -12,6 +12,7 @@ use Rattle.wire.specs.Told.{Told, accepted, refused}
 use Rattle.wire.specs.Writes.{writeOutput}
 use Rattle.sm160_frame.specs.Layout.{START, END, frameBytes}
 use Rattle.sm160_frame.specs.Reading.{badLargest}
+use Rattle.sm160_datagram.specs.Reading.{datagramRules}
 use Rattle.sm160_sender.specs.declared.Sent.{Sent}
 use Rattle.sm160_sender.specs.declared.Sent.the-variants.{Frame, Refused}
 
@@ -49,14 +50,18 @@ pastEnd file place = leb (length file) place
 abbrev pub noRoom : List ℕ → ℕ → ℕ → ℕ → Bool
 noRoom file largest place room = ltb room (length (partAt file largest place) + 12)
 
--- "the sender's order is 32, 33, 34, 16"
+abbrev pub placeRules : List ℕ → ℕ → ℕ → ℕ → List Rule
+placeRules file largest place room =
+    34 when pastEnd file place
+    ∷ 16 when noRoom file largest place room
+    ∷ []
+
+-- "the sender's order is 32, 33, 37, 38, 39, 34, 16": those of the whole file "for the sender after 33"
 abbrev pub sendRules : List ℕ → ℕ → ℕ → ℕ → List Rule
 sendRules file largest place room =
     32 when badFile file
     ∷ 33 when badLargest largest
-    ∷ 34 when pastEnd file place
-    ∷ 16 when noRoom file largest place room
-    ∷ []
+    ∷ (datagramRules file ++ placeRules file largest place room)
 
 -- "The sender gets file, session, largest part, place and a buffer. .. It answers the frame's length and the next place. Bytes after the
 -- frame stay": the answer r, and what the output holds afterwards

@@ -1,7 +1,7 @@
 // The sender of a file: one frame a call. The caller goes on at the answered place, until that is the file's end. What it answers is in specs/.
 ghost use mathlib.Core.Path.{_≡_};
 ghost use Rattle.wire.specs.Refusal.{first};
-ghost use Rattle.sm160_sender.specs.Sending.{partAt, flagsFor, badFile, pastEnd, noRoom, sendRules, Sends};
+ghost use Rattle.sm160_sender.specs.Sending.{partAt, flagsFor, badFile, pastEnd, noRoom, placeRules, sendRules, Sends};
 use sm160_frame::END;
 use sm160_frame::START;
 
@@ -47,6 +47,19 @@ fn no_room(file: &[u8], largest: usize, place: usize, room: usize) -> bool
     room < part.len() + 12
 }
 
+// The first rule of 34 and 16 that holds, 0 for none.
+fn place_fault(file: &[u8], largest: usize, place: usize, room: usize) -> u8
+    ensures { λ r. ⌜ r ≡ first (placeRules (now (file .entry)) largest place room) ⌝ }
+{
+    if past_end(file, place) {
+        return 34;
+    }
+    if no_room(file, largest, place, room) {
+        return 16;
+    }
+    0
+}
+
 // The number of the first rule that holds, 0 for none.
 fn send_fault(file: &[u8], largest: usize, place: usize, room: usize) -> u8
     ensures { λ r. ⌜ r ≡ first (sendRules (now (file .entry)) largest place room) ⌝ }
@@ -57,13 +70,11 @@ fn send_fault(file: &[u8], largest: usize, place: usize, room: usize) -> u8
     if sm160_frame::bad_largest(largest) {
         return 33;
     }
-    if past_end(file, place) {
-        return 34;
+    let of_file = sm160_datagram::fault_of(file);
+    if of_file != 0 {
+        return of_file;
     }
-    if no_room(file, largest, place, room) {
-        return 16;
-    }
-    0
+    place_fault(file, largest, place, room)
 }
 
 // One frame, over the front of out.

@@ -1,7 +1,8 @@
-// Acts 1 to 3, 9 and 61 to 63: the checksums, dates and digits.
+// Acts 1 to 3, 9, 61 to 63 and 70: the checksums, dates and digits.
 use crate::say;
 use checksum::checksum;
 use checksum::checksum_from;
+use checksum::crc32_from;
 use checksum::lrc;
 use checksum::sum_byte;
 use checksum::sum_from;
@@ -28,6 +29,12 @@ fn of_a_byte(b: u8) -> bool {
     say::numbers(&[0, lrc(b) as u64, digit(b as u64) as u64, digit_of(b) as u64])
 }
 
+// Act 70: as act 9, of the CRC-32.
+fn crc32_stretches(start: u32, first: &[u8], second: &[u8]) -> bool {
+    let c = crc32_from(start, first);
+    say::numbers(&[0, c as u64, crc32_from(c, second) as u64])
+}
+
 pub fn answer(act: u8, numbers: &[u8], bytes: &[u8], second: &[u8]) -> bool {
     match act {
         1 => say::numbers(&[0, checksum_from(wire::le16_at(numbers, 0), bytes) as u64]),
@@ -36,6 +43,7 @@ pub fn answer(act: u8, numbers: &[u8], bytes: &[u8], second: &[u8]) -> bool {
         9 => stretches(wire::le16_at(numbers, 0), bytes, second),
         61 => say::numbers(&[0, sum_byte(byte_at(numbers, 0), byte_at(numbers, 8)) as u64]),
         62 => sum_stretches(byte_at(numbers, 0), bytes, second),
+        70 => crc32_stretches(wire::le32_at(numbers, 0), bytes, second),
         _ => of_a_byte(byte_at(numbers, 0)),
     }
 }

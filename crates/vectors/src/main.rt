@@ -2,6 +2,7 @@
 mod cards;
 mod clocks;
 mod collector;
+mod datagrams;
 mod envelope;
 mod files;
 mod frames;
@@ -45,12 +46,13 @@ fn controller(act: u8, numbers: &[u8], bytes: &[u8], out: &mut [u8]) -> bool {
 // Answers a case: an act, its numbers of eight bytes each, and its byte strings.
 fn answer(act: u8, numbers: &[u8], bytes: &[u8], out: &mut [u8]) -> bool {
     match act {
-        1..=3 | 9 | 61..=63 => ground::answer(act, numbers, bytes, out),
+        1..=3 | 9 | 61..=63 | 70 => ground::answer(act, numbers, bytes, out),
         4..=8 => readings::answer(act, numbers, bytes),
         10..=23 => pulsar(act, numbers, bytes, out),
         30..=44 => controller(act, numbers, bytes, out),
         50..=52 => cards::answer(act, numbers, bytes, out),
         60 => clocks::answer(numbers),
+        71..=80 => datagrams::answer(act, numbers, bytes, out),
         _ => say::unknown(act),
     }
 }

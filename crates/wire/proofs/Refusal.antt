@@ -1,12 +1,12 @@
 -- The law of refusals: the answer is n just where rule n holds and no earlier one does, and 0 just where none holds.
 -- Assumes nothing.
 use mathlib.Core.Path.{_≡_, refl, sym, ap, _∙_, subst}
-use mathlib.Core.Bool.{Bool, true, false}
+use mathlib.Core.Bool.{Bool, true, false, _&&_}
 use mathlib.Core.List.{List, [], _∷_, _++_}
 use Prim.Native.Nat.{ℕ, zero, suc}
 use native.Mathlib.Omega.{arith}
 use lib.Dec.{T}
-use Rattle.wire.specs.Refusal.{Rule, _when_, pick, first, NoneHolds, FirstIs, numbered, FirstInOrder}
+use Rattle.wire.specs.Refusal.{Rule, _when_, pick, first, askedIf, NoneHolds, FirstIs, numbered, FirstInOrder}
 
 pub first-skips : (rs ss : List Rule) → NoneHolds rs → first (rs ++ ss) ≡ first ss
 unfolding pick
@@ -56,6 +56,13 @@ first-hits [] ss h = absurd (h refl)
 first-hits ((n when true) ∷ rs) ss h = refl
 first-hits ((n when false) ∷ rs) ss h = first-hits rs ss h
 
+-- and where the first stretch is judged by itself, with the answer n, the whole is judged so
+pub found : (rs ss : List Rule) (n : ℕ) → n ≡ first rs → (n ≡ 0 → ⊥) → n ≡ first (rs ++ ss)
+found rs ss n e some = e ∙ sym (first-hits rs ss (λ z. some (e ∙ z)))
+
+pub passed : (rs ss : List Rule) → T (numbered rs) → (n k : ℕ) → n ≡ first rs → n ≡ 0 → k ≡ first ss → k ≡ first (rs ++ ss)
+passed rs ss t n k e z h = h ∙ sym (first-skips rs ss (none-first rs t (sym e ∙ z)))
+
 pub none-both : (rs ss : List Rule) → NoneHolds rs → NoneHolds ss → NoneHolds (rs ++ ss)
 none-both [] ss h k = k
 none-both ((n when b) ∷ rs) ss h k = (h .0, none-both rs ss (h .1) k)
@@ -66,6 +73,18 @@ refusal-law rs t = ((λ n. (is-first rs n, first-is rs (suc n))), none-first rs 
 -- the same of the number that is told
 pub in-order : (rs : List Rule) (told : ℕ) → T (numbered rs) → first rs ≡ told → FirstInOrder rs told
 in-order rs told t e = subst (FirstInOrder rs) e (refusal-law rs t)
+
+-- ---- rules that are asked only where b holds
+pub asked : (b : Bool) (rs : List Rule) → b ≡ true → first (askedIf b rs) ≡ first rs
+asked b rs e = ap (λ (x : Bool). first (askedIf x rs)) e ∙ all rs
+  where
+    all : (rs : List Rule) → first (askedIf true rs) ≡ first rs
+    all [] = refl
+    all ((n when c) ∷ rs) = ap (pick c n) (all rs)
+
+pub unasked : (b : Bool) (rs : List Rule) → b ≡ false → NoneHolds (askedIf b rs)
+unasked b [] e = tt
+unasked b ((n when c) ∷ rs) e = (ap (λ (x : Bool). x && c) e, unasked b rs e)
 
 -- ---- for the code, which asks one condition after another: r is what a function answered that tests b. `search (hit, skip) depth 12`
 -- proves from these what a `return` owes

@@ -17,6 +17,7 @@ use Rattle.wire.proofs.put.Reads as put
 use Rattle.wire.proofs.put_all.Reads as put-all
 use Rattle.wire.proofs.put_le16.Reads as put-le16
 use Rattle.wire.proofs.put_le32.Reads as put-le32
+use Rattle.wire.proofs.put_le64.Reads as put-le64
 use Rattle.wire.proofs.put_be16.Reads as put-be16
 use Rattle.wire.proofs.put_bcd32.Reads as put-bcd32
 use Rattle.wire.proofs.digit.Reads as digit
@@ -63,6 +64,9 @@ put-le16-unique κs a r r′ s s′ e e′ = e ∙ sym e′
 
 pub put-le32-unique : Unique put-le32.Post (λ κs r s. now (s .0))
 put-le32-unique κs a r r′ s s′ e e′ = e ∙ sym e′
+
+pub put-le64-unique : Unique put-le64.Post (λ κs r s. now (s .0))
+put-le64-unique κs a r r′ s s′ e e′ = e ∙ sym e′
 
 pub put-be16-unique : Unique put-be16.Post (λ κs r s. now (s .0))
 put-be16-unique κs a r r′ s s′ e e′ = e ∙ sym e′

@@ -2,7 +2,7 @@
 -- Assumes nothing.
 use Prim.Native.Nat.{ℕ, zero, suc}
 use mathlib.Core.Path.{_≡_}
-use mathlib.Core.Bool.{Bool, true, false}
+use mathlib.Core.Bool.{Bool, true, false, _&&_}
 use mathlib.Core.List.{List, [], _∷_, _++_}
 
 pub data Rule : Type 0 where
@@ -18,6 +18,11 @@ pick false a b = b
 abbrev pub first : List Rule → ℕ
 first [] = 0
 first ((n when b) ∷ rs) = pick b n (first rs)
+
+-- the same rules, asked only where b holds
+abbrev pub askedIf : Bool → List Rule → List Rule
+askedIf b [] = []
+askedIf b ((n when c) ∷ rs) = n when (b && c) ∷ askedIf b rs
 
 -- ---- what the law of refusals speaks of
 

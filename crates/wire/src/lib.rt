@@ -149,6 +149,22 @@ pub fn put_le32(out: &mut [u8], at: usize, v: u32)
     put_all(out, at, &bytes);
 }
 
+pub fn put_le64(out: &mut [u8], at: usize, v: u64)
+    ensures { λ _. ⌜ now (out .exit) ≡ sets (now (out .entry)) at (le 8 v) ⌝ }
+{
+    let bytes = [
+        (v % 256) as u8,
+        (v / 256 % 256) as u8,
+        (v / 256 / 256 % 256) as u8,
+        (v / 256 / 256 / 256 % 256) as u8,
+        (v / 256 / 256 / 256 / 256 % 256) as u8,
+        (v / 256 / 256 / 256 / 256 / 256 % 256) as u8,
+        (v / 256 / 256 / 256 / 256 / 256 / 256 % 256) as u8,
+        (v / 256 / 256 / 256 / 256 / 256 / 256 / 256 % 256) as u8,
+    ];
+    put_all(out, at, &bytes);
+}
+
 pub fn put_be16(out: &mut [u8], at: usize, v: u16)
     ensures { λ _. ⌜ now (out .exit) ≡ sets (now (out .entry)) at (be 2 v) ⌝ }
 {

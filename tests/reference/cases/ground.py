@@ -1,11 +1,12 @@
-"""Cases for the checksums, dates, readings and digits (acts 1 to 9, 61 to 63)."""
+"""Cases for the checksums, dates, readings and digits (acts 1 to 9, 61 to 63, 70)."""
 from itertools import product
 
 from cases.making import flipped, pattern
-from crc import crc16, low_byte_first
+from crc import crc16, crc32, low_byte_first
 from dates import RANGES, days
 from lrc import lrc
 from modbus import rtu_bytes
+from printed import DATAGRAMS
 from pulsar_frame import frame_bytes
 
 WIDEST = 2 ** 64 - 1
@@ -56,6 +57,24 @@ def stretches(rng):
             yield [0xFFFF], [whole[:cut], whole[cut:]], 0
             broken = flipped(whole, rng.randrange(8 * len(whole)))
             yield [0xFFFF], [broken[:cut], broken[cut:]], 0
+
+
+def crc32_stretches(rng):
+    """A message in two buffers: cut at every place, at its ends too; from other starts; long ones; and the printed datagrams where they are cut."""
+    for message in (b"", b"\x00", b"\xFF", b"123456789", rng.randbytes(12)):
+        for cut in range(len(message) + 1):
+            yield [0], [message[:cut], message[cut:]], 0
+    for start in [1 << bit for bit in range(32)] + [0xEDB88320, 0xFFFFFFFE, 0xFFFFFFFF, crc32(b"1234")]:
+        yield [start], [b"56", b"789"], 0
+    for byte in range(0, 256, 15):
+        yield [0], [bytes([byte]), b""], 0
+    for length in (255, 256, 1000, 4096):
+        message = pattern(length)
+        for cut in (0, 1, length // 2, length):
+            yield [0], [message[:cut], message[cut:]], 0
+    for one in DATAGRAMS:
+        for cut in (0, min(68, len(one) - 12), len(one) - 12):
+            yield [0], [one[:cut], one[cut:-12]], 0
 
 
 def sum_byte(rng):
@@ -225,4 +244,4 @@ def is_same(rng):
 
 
 CASES = {1: checksum_from, 2: checksum, 3: dates, 4: value_at, 5: read_value, 6: first_absent, 7: channel_of, 8: is_same, 9: stretches,
-         61: sum_byte, 62: sum_stretches, 63: of_a_byte}
+         61: sum_byte, 62: sum_stretches, 63: of_a_byte, 70: crc32_stretches}

@@ -1,25 +1,22 @@
 -- `sm160_receiver::fault` meets its contract.
 -- Assumes nothing.
 use Rattle.wire.proofs.Refusal.{hit, skip}
-use Rattle.sm160_receiver.specs.Receiving.{placeRules, refusal}
+use Rattle.sm160_receiver.specs.Receiving.{placeRules}
 use Rattle.sm160_receiver.proofs.Steps.{frame-found, frame-passed}
 use borrow.Author.Needs.{needs}
 use Rattle.sm160_receiver.proofs.fault.Statement.{statement}
 use Rattle.sm160_receiver.proofs.fault.Tie as tie
 
 returns : tie.Need-returns
-unfolding refusal
 returns c = search hit depth 12
 
 returns-2 : tie.Need-returns-2
-unfolding refusal
 returns-2 c =
     let a = c .before .before .before .before .before .before .args in
     skip _ _ _ _ _ (c .before .before .before .is-unfit .ensures) (c .before .before .if1 .left)
     (frame-found (a .state .limit) (a .frame .now) (placeRules (a .state) (a .buffer .now) (a .frame .now)) _ (c .before .frame-fault .ensures) (c .if2 .taken))
 
 returns-3 : tie.Need-returns-3
-unfolding refusal
 returns-3 c =
     let a = c .before .before .before .before .before .before .before .args in
     skip _ _ _ _ _ (c .before .before .before .before .is-unfit .ensures) (c .before .before .before .if1 .left)

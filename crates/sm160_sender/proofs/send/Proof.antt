@@ -4,7 +4,7 @@ use mathlib.Core.Path.{ap}
 use native.Mathlib.Omega.{arith}
 use lib.ListN.{length}
 use Rattle.sm160_sender.proofs.Parts.{length-part}
-use Rattle.sm160_sender.proofs.Answers.{may-send, sends-refused, sends-frame}
+use Rattle.sm160_sender.proofs.Answers.{able, sends-refused, sends-frame}
 use borrow.Author.Needs.{needs}
 use Rattle.sm160_sender.proofs.send.Statement.{statement}
 use Rattle.sm160_sender.proofs.send.Tie as tie
@@ -16,14 +16,14 @@ add-next : tie.Need-add-next
 add-next c =
     let found = c .before in
     let a = found .before .before .before .before .args in
-    let g = may-send (a .file .now) (a .session) (a .largest) (a .place) (a .out .now) _ (found .before .send-fault .ensures) (found .if1 .left) in
+    let g = able (a .file .now) (a .session) (a .largest) (a .place) (a .out .now) _ (found .before .send-fault .ensures) (found .if1 .left) in
     omega (arith, g .small, length-part (a .file .now) (a .largest) (a .place) g .2, ap length (c .part-at .ensures))
 
 cast-write-frame : tie.Need-cast-write-frame
 cast-write-frame c =
     let found = c .before .before .before in
     let a = found .before .before .before .before .args in
-    let g = may-send (a .file .now) (a .session) (a .largest) (a .place) (a .out .now) _ (found .before .send-fault .ensures) (found .if1 .left) in
+    let g = able (a .file .now) (a .session) (a .largest) (a .place) (a .out .now) _ (found .before .send-fault .ensures) (found .if1 .left) in
     omega (arith, g .small, g .inside)
 
 returns-2 : tie.Need-returns-2

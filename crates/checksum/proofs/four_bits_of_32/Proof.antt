@@ -1,0 +1,19 @@
+-- `checksum::four_bits_of_32` meets its contract.
+-- Assumes nothing.
+use mathlib.Core.Path.{ap, _∙_}
+use native.Mathlib.Omega.{arith}
+use lib.ListN.{length}
+use Rattle.checksum.specs.Crc32.{CRC32}
+use Rattle.checksum.proofs.Table.{fours-size, four-at-once}
+use borrow.Author.Needs.{needs}
+use Rattle.checksum.proofs.four_bits_of_32.Statement.{statement}
+use Rattle.checksum.proofs.four_bits_of_32.Tie as tie
+
+shared-slice-read-result : tie.Need-shared-slice-read-result
+shared-slice-read-result c = omega (arith, ap length (c .before .pre) ∙ fours-size CRC32)
+
+returns : tie.Need-returns
+returns c = four-at-once CRC32 _ _ _ (c .before .pre) (omega arith)
+
+pub four-bits-of-32-spec : {M : Type 1} → statement M
+four-bits-of-32-spec = tie.close (tie.spec (λ c. search needs) (λ c. search needs) shared-slice-read-result returns)
