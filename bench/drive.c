@@ -33,11 +33,35 @@ static void make_rtu(uint8_t *p, size_t n)
     put_le16(p + n - 2, plain_checksum(p, n - 2));
 }
 
+/* A frame round the part that stands after its header. */
+static void close_part(uint8_t *p, uint16_t session, uint32_t offset, uint16_t flags, size_t size)
+{
+    put_le16(p, session), put_le16(p + 2, offset), put_le16(p + 4, offset >> 16), put_le16(p + 6, size), put_le16(p + 8, 0), put_le16(p + 10, flags);
+    put_le16(p + 8, plain_checksum_from(0, p, 12 + size));
+}
+
 static void make_part(uint8_t *p, uint16_t session, uint32_t offset, uint16_t flags, size_t size)
 {
     random_bytes(p + 12, size);
-    put_le16(p, session), put_le16(p + 2, offset), put_le16(p + 4, offset >> 16), put_le16(p + 6, size), put_le16(p + 8, 0), put_le16(p + 10, flags);
-    put_le16(p + 8, plain_checksum_from(0, p, 12 + size));
+    close_part(p, session, offset, flags, size);
+}
+
+static void put_le64(uint8_t *p, uint64_t v) { for (int i = 0; i < 8; i++) p[i] = v >> 8 * i; }
+
+/* The CRC-32 of a datagram of n bytes, made right. */
+static void seal(uint8_t *p, size_t n)
+{
+    uint32_t crc = plain_crc32_from(0, p, n - 12);
+    put_le16(p + n - 4, crc), put_le16(p + n - 2, crc >> 16);
+}
+
+/* A datagram of n bytes with so many of options. */
+static void make_datagram(uint8_t *p, size_t options, size_t n)
+{
+    random_bytes(p, n);
+    p[1] = 0, put_le16(p + 2, options), put_le16(p + 4, options >> 16);
+    put_le64(p + n - 12, n - 18 - options);
+    seal(p, n);
 }
 
 static struct fields make_fields(void)
@@ -116,13 +140,57 @@ static void check_write_ascii(const uint8_t *data, size_t n, size_t room, unsign
     *good += !a;
 }
 
-static void check_receive(uint16_t session, size_t limit, bool under_way, size_t count, const uint8_t *p, size_t n, size_t room, unsigned *good)
+/* With the file's first bytes in the buffer. */
+static void check_receive(uint16_t session, size_t limit, bool under_way, size_t count, const uint8_t *file, const uint8_t *p, size_t n, size_t room, unsigned *good, unsigned *whole)
 {
     uint8_t one[1000], other[1000];
-    memset(one, 0x5A, sizeof one), memset(other, 0x5A, sizeof other);
+    memcpy(one, file, sizeof one), memcpy(other, file, sizeof other);
     struct step a = rattle_receive(session, limit, under_way, count, p, n, one, room), b = plain_receive(session, limit, under_way, count, p, n, other, room);
     if (a.refused != b.refused || a.complete != b.complete || a.under_way != b.under_way || a.session != b.session || a.limit != b.limit
         || a.reached != b.reached || a.count != b.count || memcmp(one, other, sizeof one)) differ("receive");
+    *good += !a.refused;
+    *whole += a.complete;
+}
+
+/* Also as if it came in two stretches, and as what it may be. */
+static void check_datagram(const uint8_t *p, size_t n, unsigned *good, unsigned *files)
+{
+    size_t cut = chance(n + 1);
+    if (rattle_datagram_fault(p, cut, p + cut, n - cut) != plain_datagram_fault(p, cut, p + cut, n - cut)) differ("datagram_fault");
+    struct datagram a = rattle_read_datagram(p, n), b = plain_read_datagram(p, n);
+    if (a.refused != b.refused || a.kind != b.kind || a.option != b.option || a.content != b.content || a.options != b.options || a.data != b.data) differ("read_datagram");
+    struct request c = rattle_read_request(p, n), d = plain_read_request(p, n);
+    if (c.refused != d.refused || c.letter != d.letter || c.offset != d.offset || c.size != d.size || c.name != d.name) differ("read_request");
+    struct reply e = rattle_read_reply(p, n), f = plain_read_reply(p, n);
+    if (e.refused != f.refused || e.letter != f.letter || e.status != f.status || e.message != f.message) differ("read_reply");
+    *good += !a.refused;
+    *files += !c.refused + !e.refused;
+}
+
+static void check_write_datagram(const uint8_t *options, size_t o, const uint8_t *data, size_t n, unsigned *good)
+{
+    uint8_t one[1000], other[1000], kind = chance(256);
+    uint64_t offset = chance(0x7FFFFFFF), size = offset * offset;
+    size_t room = o + n + 17 + chance(9);
+    memset(one, 0x5A, sizeof one), memset(other, 0x5A, sizeof other);
+    uint8_t a = rattle_write_datagram(kind, options, o, data, n, one, room), b = plain_write_datagram(kind, options, o, data, n, other, room);
+    if (a != b || memcmp(one, other, sizeof one)) differ("write_datagram");
+    *good += !a;
+    a = rattle_write_request(offset, size, options, o, one, room + 19 - n), b = plain_write_request(offset, size, options, o, other, room + 19 - n);
+    if (a != b || memcmp(one, other, sizeof one)) differ("write_request");
+    *good += !a;
+    a = rattle_write_reply(size, options, o, data, n, one, room + 7), b = plain_write_reply(size, options, o, data, n, other, room + 7);
+    if (a != b || memcmp(one, other, sizeof one)) differ("write_reply");
+    *good += !a;
+}
+
+static void check_send(const uint8_t *file, size_t n, size_t largest, size_t place, size_t room, unsigned *good)
+{
+    uint8_t one[300], other[300];
+    uint16_t session = chance(65536);
+    memset(one, 0x5A, sizeof one), memset(other, 0x5A, sizeof other);
+    struct sent a = rattle_send(file, n, session, largest, place, one, room), b = plain_send(file, n, session, largest, place, other, room);
+    if (a.refused != b.refused || a.length != b.length || a.next != b.next || memcmp(one, other, sizeof one)) differ("send");
     *good += !a.refused;
 }
 
@@ -152,14 +220,15 @@ static void check_clock(struct date meter, struct date cabinet, unsigned *good)
 
 static int check(void)
 {
-    static uint8_t p[10000];
-    unsigned frames = 0, lines = 0, texts = 0, made = 0, received = 0, clocks = 0, read = 0, written = 0;
+    static uint8_t p[10000], file[1000];
+    unsigned frames = 0, lines = 0, texts = 0, made = 0, received = 0, whole = 0, datagrams = 0, files = 0, put = 0, sent = 0, clocks = 0, read = 0, written = 0;
     for (size_t n = 0; n < 600; n++) {
         random_bytes(p, n);
         if (rattle_checksum(p, n) != plain_checksum(p, n)) differ("checksum");
         size_t cut = chance(n + 1);
         uint16_t start = chance(65536);
         if (rattle_checksum_from(rattle_checksum_from(start, p, cut), p + cut, n - cut) != plain_checksum_from(start, p, n)) differ("checksum_from");
+        if (rattle_crc32_from(rattle_crc32_from(start, p, cut), p + cut, n - cut) != plain_crc32_from(start, p, n)) differ("crc32_from");
     }
     for (int i = 0; i < 20000; i++) {
         size_t len = 10 + chance(246), more = chance(3), size = 1 + chance(240);
@@ -191,10 +260,36 @@ static int check(void)
         if (flags & 2 && chance(4)) offset = 0;
         bool under_way = chance(9), held = chance(9);
         size_t room = 300 + chance(700);
-        make_part(p, 7, offset, flags, size);
-        check_receive(chance(9) ? 7 : 8, chance(9) ? 200 + chance(42) : size - chance(2), under_way, held ? count : 0, p, 12 + size, room, &received);
+        /* The file that it ends, which is in the buffer; its lengths may only seem to agree, where their sum wraps. */
+        size_t all = offset + size < 18 ? 18 : offset + size, options = chance(all - 17);
+        if (!chance(9)) options += chance(all);
+        make_datagram(file, options, all);
+        if (!chance(9)) file[1] = chance(3), seal(file, all);
+        memcpy(p + 12, file + offset, size);
+        if (!chance(9)) damage(p + 12, size);
+        close_part(p, 7, offset, flags, size);
+        uint16_t session = chance(9) ? 7 : 8;
+        check_receive(session, chance(9) ? 200 + chance(42) : size - chance(2), under_way, held ? count : 0, file, p, 12 + size, room, &received, &whole);
         damage(p, 12 + size);
-        check_receive(7, 240, true, count, p, 12 + size - chance(2), 1000, &received);
+        check_receive(7, 240, true, count, file, p, 12 + size - chance(2), 1000, &received, &whole);
+
+        size_t place = chance(all + 9), largest = 1 + chance(240), little = chance(20), text = chance(99), data = chance(500);
+        check_datagram(file, all, &datagrams, &files);
+        check_send(file, all, largest, place, 300, &sent);
+        check_send(file, little, largest, place, 300, &sent);
+        check_send(file, all, chance(2) * 241, place, 300, &sent);
+        check_send(file, all, 240, place, 12 + chance(240), &sent);
+        check_write_datagram(p, text, p + 99, data, &put);
+        bool request = chance(2);
+        if (request) plain_write_request(offset, size, p, text, file, all = text + 37);
+        else plain_write_reply(size, p, text, p + 99, data, file, all = text + data + 25);
+        check_datagram(file, all, &datagrams, &files);
+        damage(file, chance(2) ? all : 40);
+        check_datagram(file, all, &datagrams, &files);
+        check_send(file, all, largest, place, 300, &sent);
+        seal(file, all);
+        check_datagram(file, all, &datagrams, &files);
+        check_datagram(file, little, &datagrams, &files);
 
         struct date meter = make_date(), cabinet;
         cabinet = make_date();
@@ -226,9 +321,9 @@ static int check(void)
         }
         check_write_card(c, 17, &written);
     }
-    fprintf(stderr, "the same answers: 600 checksums, as many in two stretches, 60,000 frames at the meter and at the master (%u accepted), 60,000 RTU lines (%u), 60,000 ASCII lines (%u) and 20,000 written (%u), 40,000 parts (%u), 60,000 clocks (%u), 40,000 cards read (%u) and 60,000 written (%u)\n",
-            frames, lines, texts, made, received, clocks, read, written);
-    if (frames < 35000 || lines < 19000 || texts < 10000 || made < 10000 || received < 1000 || clocks < 20000 || read < 20000 || written < 20000) {
+    fprintf(stderr, "the same answers: 600 checksums and CRC-32s, as many in two stretches, 60,000 frames at the meter and at the master (%u accepted), 60,000 RTU lines (%u), 60,000 ASCII lines (%u) and 20,000 written (%u), 40,000 parts (%u, %u of them the last), 100,000 datagrams (%u, %u of them for a file) and 60,000 written (%u), 100,000 parts sent (%u), 60,000 clocks (%u), 40,000 cards read (%u) and 60,000 written (%u)\n",
+            frames, lines, texts, made, received, whole, datagrams, files, put, sent, clocks, read, written);
+    if (frames < 35000 || lines < 19000 || texts < 10000 || made < 10000 || received < 1000 || whole < 1000 || datagrams < 40000 || files < 20000 || put < 20000 || sent < 20000 || clocks < 20000 || read < 20000 || written < 20000) {
         fprintf(stderr, "too few inputs are accepted\n");
         return 1;
     }
@@ -263,6 +358,9 @@ int main(int argc, char **argv)
             uint16_t c = BOTH(checksum, p, n / 2);
             sum += BOTH(checksum_from, c, p + n / 2, n - n / 2);
         }
+    } else if (!strcmp(work, "crc32")) {
+        random_bytes(p, n);
+        while (reps--) sum += BOTH(crc32_from, 0, p, n);
     } else if (!strcmp(work, "frame")) {
         make_frame(p, n);
         while (reps--) sum += BOTH(read_at_meter, 12345678, p, n).bytes;
@@ -285,6 +383,38 @@ int main(int argc, char **argv)
     } else if (!strcmp(work, "receive")) {
         make_part(p, 7, 240, 0, n);
         while (reps--) sum += BOTH(receive, 7, 240, true, 240, p, 12 + n, buffer, sizeof buffer).count;
+    } else if (!strcmp(work, "last")) { /* the last frame of a file, or its only one */
+        size_t held = n > 240 ? 240 : 0;
+        make_datagram(buffer, 9, n);
+        memcpy(p + 12, buffer + held, n - held);
+        close_part(p, 7, held, held ? 4 : 6, n - held);
+        while (reps--) sum += BOTH(receive, 7, 240, held != 0, held, p, 12 + n - held, buffer, sizeof buffer).reached;
+    } else if (!strcmp(work, "halves")) {
+        make_datagram(p, 9, n);
+        while (reps--) sum += !BOTH(datagram_fault, p, n / 2, p + n / 2, n - n / 2);
+    } else if (!strcmp(work, "datagram")) {
+        make_datagram(p, 9, n);
+        while (reps--) sum += BOTH(read_datagram, p, n).data;
+    } else if (!strcmp(work, "envelope")) {
+        random_bytes(p, n);
+        while (reps--) sum += BOTH(write_datagram, 0x87, p, 9, p + 9, n - 27, buffer, n) + buffer[n - 1];
+    } else if (!strcmp(work, "request")) {
+        random_bytes(p, n);
+        plain_write_request(0, -1, p, n - 37, buffer, n);
+        while (reps--) sum += BOTH(read_request, buffer, n).name;
+    } else if (!strcmp(work, "ask")) {
+        random_bytes(p, n);
+        while (reps--) sum += BOTH(write_request, 0, -1, p, n - 37, buffer, n) + buffer[n - 1];
+    } else if (!strcmp(work, "answer")) {
+        random_bytes(p, n);
+        plain_write_reply(0, (const uint8_t *)"OK", 2, p, n - 27, buffer, n);
+        while (reps--) sum += BOTH(read_reply, buffer, n).message;
+    } else if (!strcmp(work, "bring")) {
+        random_bytes(p, n);
+        while (reps--) sum += BOTH(write_reply, 0, (const uint8_t *)"OK", 2, p, n - 27, buffer, n) + buffer[n - 1];
+    } else if (!strcmp(work, "send")) {
+        make_datagram(p, 9, n);
+        while (reps--) sum += BOTH(send, p, n, 7, 240, 0, buffer, sizeof buffer).next + buffer[8];
     } else if (!strcmp(work, "clock")) {
         for (int i = 0; i < 401; i++) dates[i] = make_date();
         for (size_t r = 0; r < reps; r++)

@@ -128,7 +128,7 @@ pub datagram-length : (d : List ℕ) → datagramFault d ≡ 0 → 18 ≤ length
 unfolding datagramFault
 datagram-length d good = ltb-false (length d) 18 (or-neither (ltb (length d) 18) (not (eqb (18 + optionsLengthOf d + dataLengthOf d) (length d))) (none-first (datagramRules d) tt good .0) .0)
 
-module _ (d : List ℕ) (bytes : Bytes d) (good : datagramFault d ≡ 0) where
+module _ (d : List ℕ) (good : datagramFault d ≡ 0) where
   abbrev n : ℕ
   n = length d
 
@@ -174,13 +174,6 @@ module _ (d : List ℕ) (bytes : Bytes d) (good : datagramFault d ≡ 0) where
   pub length-options : length (optionsOf d) ≡ O
   length-options = length-take-le O (drop 6 d) (omega (arith, sum, length-drop 6 d))
 
-  -- four bytes say it
-  pub options-small : length (optionsOf d) ≤ 4294967295
-  options-small =
-      let k : length (field d 2 4) ≡ 4 = length-field d 2 4 in
-      let below : O < 256 ^ 4 = rw k at (ofLe-lt (field d 2 4) (field-bytes d 2 4 bytes)) in
-      omega (arith, length-options)
-
   length-six : length A ≡ 6
   length-six = length-take-le 6 d (omega (arith, sum))
 
@@ -197,17 +190,6 @@ module _ (d : List ℕ) (bytes : Bytes d) (good : datagramFault d ≡ 0) where
   unfolding field
   six = field-take d 0 6 (omega (arith, sum))
 
-  opening : openingBytes (typeOf d) (length (optionsOf d)) ≡ A
-  unfolding openingBytes
-  opening =
-      ap₂ (λ (x y : ℕ). typeOf d ∷ x ∷ le 4 y) (sym not-compressed) length-options
-      ∙ ap (λ (l : List ℕ). typeOf d ∷ flagOf d ∷ l) (number-again d 2 4 bytes)
-      ∙ six
-
-  covered : coveredBytes (typeOf d) (optionsOf d) (dataOf d) ≡ K
-  unfolding coveredBytes
-  covered = ap₂ (λ (x y : List ℕ). x ++ (optionsOf d ++ y)) opening data-is ∙ sym split
-
   last-twelve : field d (n - 12) 8 ++ field d (n - 4) 4 ≡ drop (n - 12) d
   last-twelve =
       let e : n - 12 + 8 ≡ n - 4 = omega (arith, sum) in
@@ -216,20 +198,39 @@ module _ (d : List ℕ) (bytes : Bytes d) (good : datagramFault d ≡ 0) where
       ∙ field-take d (n - 12) 12 (omega (arith, sum))
       ∙ take-all 12 (drop (n - 12) d) (omega (arith, sum, length-drop (n - 12) d))
 
-  closing : closingBytes (length (dataOf d)) K ≡ drop (n - 12) d
-  unfolding closingBytes crcDue
-  closing =
-      ap₂ (λ (x y : ℕ). le 8 x ++ le 4 y) length-data (sym same)
-      ∙ ap₂ (λ (x y : List ℕ). x ++ y) (number-again d (n - 12) 8 bytes) (number-again d (n - 4) 4 bytes)
-      ∙ last-twelve
-
-  -- where no rule of 37 to 39 holds, the bytes are those of the fields
-  pub read-bytes : datagramBytes (typeOf d) (optionsOf d) (dataOf d) ≡ d
-  unfolding datagramBytes
-  read-bytes =
-      ap (λ (l : List ℕ). l ++ closingBytes (length (dataOf d)) l) covered
-      ∙ ap (λ (l : List ℕ). K ++ l) closing
-      ∙ take-append-drop (n - 12) d
-
   pub whole-length : length (optionsOf d) + length (dataOf d) + 18 ≡ n
   whole-length = omega (arith, sum, length-options, length-data)
+
+  module _ (bytes : Bytes d) where
+    -- four bytes say it
+    pub options-small : length (optionsOf d) ≤ 4294967295
+    options-small =
+        let k : length (field d 2 4) ≡ 4 = length-field d 2 4 in
+        let below : O < 256 ^ 4 = rw k at (ofLe-lt (field d 2 4) (field-bytes d 2 4 bytes)) in
+        omega (arith, length-options)
+
+    opening : openingBytes (typeOf d) (length (optionsOf d)) ≡ A
+    unfolding openingBytes
+    opening =
+        ap₂ (λ (x y : ℕ). typeOf d ∷ x ∷ le 4 y) (sym not-compressed) length-options
+        ∙ ap (λ (l : List ℕ). typeOf d ∷ flagOf d ∷ l) (number-again d 2 4 bytes)
+        ∙ six
+
+    covered : coveredBytes (typeOf d) (optionsOf d) (dataOf d) ≡ K
+    unfolding coveredBytes
+    covered = ap₂ (λ (x y : List ℕ). x ++ (optionsOf d ++ y)) opening data-is ∙ sym split
+
+    closing : closingBytes (length (dataOf d)) K ≡ drop (n - 12) d
+    unfolding closingBytes crcDue
+    closing =
+        ap₂ (λ (x y : ℕ). le 8 x ++ le 4 y) length-data (sym same)
+        ∙ ap₂ (λ (x y : List ℕ). x ++ y) (number-again d (n - 12) 8 bytes) (number-again d (n - 4) 4 bytes)
+        ∙ last-twelve
+
+    -- where no rule of 37 to 39 holds, the bytes are those of the fields
+    pub read-bytes : datagramBytes (typeOf d) (optionsOf d) (dataOf d) ≡ d
+    unfolding datagramBytes
+    read-bytes =
+        ap (λ (l : List ℕ). l ++ closingBytes (length (dataOf d)) l) covered
+        ∙ ap (λ (l : List ℕ). K ++ l) closing
+        ∙ take-append-drop (n - 12) d

@@ -51,8 +51,8 @@ pub datagram-writes-again : (d : List ℕ) (type : ℕ) (out : List ℕ) (r : Wr
 datagram-writes-again d type out r out′ bytes e room w =
     let ok = accepted d type e in
     let bs = datagramBytes type (optionsOf d) (dataOf d) in
-    let same : bs ≡ d = ap (λ (t : ℕ). datagramBytes t (optionsOf d) (dataOf d)) (sym (ok .1)) ∙ read-bytes d bytes (ok .0) in
-    let long = whole-length d bytes (ok .0) in
-    let small = le-ltb 4294967295 (length (optionsOf d)) (options-small d bytes (ok .0)) in
+    let same : bs ≡ d = ap (λ (t : ℕ). datagramBytes t (optionsOf d) (dataOf d)) (sym (ok .1)) ∙ read-bytes d (ok .0) bytes in
+    let long = whole-length d (ok .0) in
+    let small = le-ltb 4294967295 (length (optionsOf d)) (options-small d (ok .0) bytes) in
     let none = first-none (writeRules (optionsOf d) (dataOf d) out) (small, (le-ltb (length out) (length (optionsOf d) + length (dataOf d) + 18) (omega (arith, long)), tt)) in
     subst (λ (l : List ℕ). (r ≡ Length (length l)) × (out′ ≡ over out l)) same (wrote-all (first (writeRules (optionsOf d) (dataOf d) out)) bs out r out′ w none)

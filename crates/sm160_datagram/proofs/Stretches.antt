@@ -1,14 +1,14 @@
--- Two stretches as one: what the code gathers from both, the CRC-32 over both in turn, and the lengths judged without a sum.
+-- Two stretches as one: what the code reads from either and gathers from both, the CRC-32 over both in turn, and the lengths judged without a sum.
 -- Assumes nothing.
-use mathlib.Core.Path.{_≡_, refl, sym, ap, _∙_}
+use mathlib.Core.Path.{_≡_, refl, sym, ap, ap₂, _∙_}
 use mathlib.Core.Bool.{Bool, true, false, not, _||_}
 use mathlib.Core.List.{List, [], _∷_, _++_}
-use Prim.Native.Nat.{ℕ, zero, suc, _+_, _-_, _≤_}
+use Prim.Native.Nat.{ℕ, zero, suc, _+_, _-_, _≤_, _<_}
 use native.Mathlib.Nat.{sub-zero, zero-sub, suc-sub-suc}
 use native.Mathlib.Omega.{arith}
 use borrow.Author.Tests.{ltb-true, ltb-false, eqb-true, eqb-false, eq-eqb, ne-eqb}
 use lib.Dec.{ltb, eqb}
-use lib.ListN.{length, take, drop, getD, set, replicate, length-append, length-drop}
+use lib.ListN.{length, take, drop, getD, set, replicate, length-append, length-drop, drop-of-length-le, List·getD-append}
 use lib.Seq.{sets, take-nil, drop-nil, take-all}
 use Rattle.checksum.specs.Crc32.{crc32, crc32From}
 use Rattle.checksum.proofs.Crc32.{crc32-append}
@@ -57,18 +57,39 @@ over-zeros (suc w) (x ∷ xs) =
 field-all : (s : List ℕ) (w : ℕ) → length s ≡ w → field s 0 w ≡ s
 field-all s w e = field-take s 0 w (omega arith) ∙ take-all w s (omega arith)
 
--- so a field of w bytes that is gathered over w zeros is that of both stretches
-gathered-field : (d s : List ℕ) (at w : ℕ) → s ≡ sets (replicate w 0) 0 (drop at d) → field s 0 w ≡ field d at w
-gathered-field d s at w e =
-    let whole : s ≡ field d at w = e ∙ over-zeros w (drop at d) ∙ field-of-rest d at w in
-    field-all s w (ap length whole ∙ length-field d at w) ∙ whole
-
-pub gathered-byte : (d s : List ℕ) (at : ℕ) → s ≡ sets (replicate 1 0) 0 (drop at d) → getD s 0 0 ≡ getD d at 0
-unfolding field
-gathered-byte d s at e = ap (λ (l : List ℕ). getD l 0 0) (gathered-field d s at 1 e)
-
+-- so a number of w bytes that is gathered over w zeros is that of both stretches
 pub gathered-number : (d s : List ℕ) (at w r : ℕ) → s ≡ sets (replicate w 0) 0 (drop at d) → r ≡ ofLe (field s 0 w) → r ≡ ofLe (field d at w)
-gathered-number d s at w r e er = er ∙ ap ofLe (gathered-field d s at w e)
+gathered-number d s at w r e er =
+    let whole : s ≡ field d at w = e ∙ over-zeros w (drop at d) ∙ field-of-rest d at w in
+    er ∙ ap ofLe (field-all s w (ap length whole ∙ length-field d at w) ∙ whole)
+
+-- ---- what lies in one of the stretches alone: `left` is how many bytes the first has from the place on
+module _ (held part : List ℕ) (at : ℕ) where
+  field-front : (at w : ℕ) → at + w ≤ length held → field held at w ≡ field (held ++ part) at w
+  unfolding field
+  field-front at zero h = refl
+  field-front at (suc w) h =
+      ap₂ (λ (x : ℕ) (l : List ℕ). x ∷ l) (sym (List·getD-append held part 0 at (omega arith))) (field-front (at + 1) w (omega arith))
+
+  field-behind : (w : ℕ) → length held ≤ at → field part (at - length held) w ≡ field (held ++ part) at w
+  field-behind w h =
+      sym (field-of-rest part (at - length held) w)
+      ∙ ap (λ (l : List ℕ). field l 0 w) (sym (drop-two at held part ∙ ap (λ (l : List ℕ). l ++ drop (at - length held) part) (drop-of-length-le held h)))
+      ∙ field-of-rest (held ++ part) at w
+
+  pub in-first : (w left r : ℕ) → 0 < w → left ≡ length held - at → w ≤ left → r ≡ ofLe (field held at w) → r ≡ ofLe (field (held ++ part) at w)
+  in-first w left r some el h er = er ∙ ap ofLe (field-front at w (omega arith))
+
+  pub in-second : (w left k r : ℕ) → left ≡ length held - at → left ≡ 0 → k ≡ at - length held → r ≡ ofLe (field part k w) → r ≡ ofLe (field (held ++ part) at w)
+  in-second w left k r el none ek er = er ∙ ap (λ (n : ℕ). ofLe (field part n w)) ek ∙ ap ofLe (field-behind w (omega arith))
+
+  -- a byte
+  pub byte-in-first : (b : ℕ) → at < length held → b ≡ getD held at 0 → b ≡ getD (held ++ part) at 0
+  byte-in-first b h eb = eb ∙ sym (List·getD-append held part 0 at h)
+
+  pub byte-in-second : (b k : ℕ) → length held ≤ at → k ≡ at - length held → b ≡ getD part k 0 → b ≡ getD (held ++ part) at 0
+  unfolding field
+  byte-in-second b k h ek eb = eb ∙ ap (λ (n : ℕ). getD part n 0) ek ∙ ap (λ (l : List ℕ). getD l 0 0) (field-behind 1 h)
 
 -- ---- the CRC-32 over both stretches in turn
 pub crc-in-stretches : (held part : List ℕ) (n : ℕ) → n ≡ length held + length part - 12

@@ -20,7 +20,7 @@ pub enum DatagramRead {
 
 // ---- two stretches as one
 
-// The bytes of both from a place on, over the front of out, as far as it goes.
+// The bytes of both from a place on, over the front of out, as far as it goes: for a number that the cut goes through.
 fn gather(held: &[u8], part: &[u8], at: usize, out: &mut [u8])
     ensures { λ _. ⌜ now (out .exit) ≡ sets (now (out .entry)) 0 (drop at (now (held .entry) ++ now (part .entry))) ⌝ }
 {
@@ -35,6 +35,13 @@ fn gather(held: &[u8], part: &[u8], at: usize, out: &mut [u8])
 fn le32_in(held: &[u8], part: &[u8], at: usize) -> u32
     ensures { λ r. ⌜ r ≡ ofLe (field (now (held .entry) ++ now (part .entry)) at 4) ⌝ }
 {
+    let left = wire::minus(held.len(), at);
+    if 4 <= left {
+        return wire::le32_at(held, at);
+    }
+    if left == 0 {
+        return wire::le32_at(part, wire::minus(at, held.len()));
+    }
     let mut bytes = [0u8; 4];
     gather(held, part, at, &mut bytes);
     wire::le32_at(&bytes, 0)
@@ -43,6 +50,13 @@ fn le32_in(held: &[u8], part: &[u8], at: usize) -> u32
 fn le64_in(held: &[u8], part: &[u8], at: usize) -> u64
     ensures { λ r. ⌜ r ≡ ofLe (field (now (held .entry) ++ now (part .entry)) at 8) ⌝ }
 {
+    let left = wire::minus(held.len(), at);
+    if 8 <= left {
+        return wire::le64_at(held, at);
+    }
+    if left == 0 {
+        return wire::le64_at(part, wire::minus(at, held.len()));
+    }
     let mut bytes = [0u8; 8];
     gather(held, part, at, &mut bytes);
     wire::le64_at(&bytes, 0)
@@ -89,9 +103,10 @@ fn wrong_crc(held: &[u8], part: &[u8]) -> bool
 fn is_compressed(held: &[u8], part: &[u8]) -> bool
     ensures { λ r. ⌜ r ≡ compressed (now (held .entry) ++ now (part .entry)) ⌝ }
 {
-    let mut flag = [0u8; 1];
-    gather(held, part, 1, &mut flag);
-    flag[0] != 0
+    if 1 < held.len() {
+        return wire::byte_at(held, 1) != 0;
+    }
+    wire::byte_at(part, wire::minus(1, held.len())) != 0
 }
 
 // The number of the first rule of 37 to 39 that the held bytes and the part after them break, as if joined; 0 for none.

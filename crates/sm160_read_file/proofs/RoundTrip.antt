@@ -111,7 +111,7 @@ request-writes-again d offset size out r out′ bytes e room w =
     let options : requestOptions offset size name ≡ o =
     ap₂ (λ (x y : ℕ). requestOptions x y name) (sym (ok .1)) (sym (ok .2)) ∙ request-again o ob (parts .0) in
     let same : requestBytes offset size name ≡ d =
-    ap₂ (λ (x : ℕ) (y : List ℕ). datagramBytes x y []) (sym (found .1)) options ∙ ap (datagramBytes (typeOf d) o) (sym nothing) ∙ read-bytes d bytes (found .0) in
+    ap₂ (λ (x : ℕ) (y : List ℕ). datagramBytes x y []) (sym (found .1)) options ∙ ap (datagramBytes (typeOf d) o) (sym nothing) ∙ read-bytes d (found .0) bytes in
     let long : length (requestBytes offset size name) ≡ length d = ap length same in
     let none = first-none (writeRules name (requestBytes offset size name) out) (le-ltb 65535 (length name) (text-small o nameAt ob (parts .0)), (le-ltb (length out) (length (requestBytes offset size name)) (omega arith), tt)) in
     subst (λ (l : List ℕ). (r ≡ Length (length l)) × (out′ ≡ over out l)) same (wrote-all (first (writeRules name (requestBytes offset size name) out)) (requestBytes offset size name) out r out′ w none)
@@ -127,7 +127,7 @@ reply-writes-again d status out r out′ bytes e room w =
     let ob = options-bytes d bytes in
     let options : replyOptions status message ≡ o = ap (λ (x : ℕ). replyOptions x message) (sym (ok .1)) ∙ reply-again o ob (found .2) in
     let same : replyBytes status message content ≡ d =
-    ap₂ (λ (x : ℕ) (y : List ℕ). datagramBytes x y content) (sym (found .1)) options ∙ read-bytes d bytes (found .0) in
+    ap₂ (λ (x : ℕ) (y : List ℕ). datagramBytes x y content) (sym (found .1)) options ∙ read-bytes d (found .0) bytes in
     let long : length (replyBytes status message content) ≡ length d = ap length same in
     let none = first-none (writeRules message (replyBytes status message content) out) (le-ltb 65535 (length message) (text-small o messageAt ob (found .2)), (le-ltb (length out) (length (replyBytes status message content)) (omega arith), tt)) in
     subst (λ (l : List ℕ). (r ≡ Length (length l)) × (out′ ≡ over out l)) same (wrote-all (first (writeRules message (replyBytes status message content) out)) (replyBytes status message content) out r out′ w none)

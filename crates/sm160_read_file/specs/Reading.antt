@@ -33,15 +33,12 @@ badRequest d = badText nameAt (optionsOf d) || not (eqb (length (dataOf d)) 0)
 abbrev pub badReply : List ℕ → Bool
 badReply d = badText messageAt (optionsOf d)
 
--- "Reading options, after these", which are 37, 38 and 39: of one type, with what is bad of it
+-- "Reading options, after these", which are 37, 38 and 39: the type, and then what is bad of the options
+abbrev pub typeRules : ℕ → List ℕ → List Rule
+typeRules type d = datagramRules d ++ (35 when otherType type d ∷ [])
+
 abbrev pub fileRules : ℕ → Bool → List ℕ → List Rule
-fileRules type bad d =
-    datagramRules d
-    ++ (
-    35 when otherType type d
-    ∷ 36 when bad
-    ∷ []
-    )
+fileRules type bad d = typeRules type d ++ (36 when bad ∷ [])
 
 abbrev pub requestRules : List ℕ → List Rule
 requestRules d = fileRules REQUEST (badRequest d) d

@@ -6,8 +6,9 @@ ghost use lib.Seq.{sets};
 ghost use Rattle.wire.specs.Numbers.{over};
 ghost use Rattle.wire.specs.Refusal.{first};
 ghost use Rattle.sm160_datagram.specs.Layout.{optionsOf};
+ghost use Rattle.sm160_datagram.specs.Reading.{datagramFault};
 ghost use Rattle.sm160_read_file.specs.Layout.{nameAt, messageAt, textBytes, textOf};
-ghost use Rattle.sm160_read_file.specs.Reading.{otherType, badText, badRequest, badReply, fileRules, readRequest, readReply};
+ghost use Rattle.sm160_read_file.specs.Reading.{otherType, badText, badRequest, typeRules, readRequest, readReply};
 ghost use Rattle.sm160_read_file.specs.Writing.{requestBytes, replyBytes, WritesRequest, WritesReply};
 use wire::Written;
 
@@ -62,22 +63,17 @@ fn bad_text(options: &[u8], at: usize) -> bool
         | (wire::byte_at(options, wire::minus(n, 1)) != 0)
 }
 
-fn bad_request(bytes: &[u8]) -> bool
+// Of a datagram with these options.
+fn bad_request(bytes: &[u8], options: &[u8]) -> bool
+    requires { ⌜ (datagramFault (now bytes) ≡ 0) × (now options ≡ optionsOf (now bytes)) ⌝ }
     ensures { λ r. ⌜ r ≡ badRequest (now (bytes .entry)) ⌝ }
 {
-    bad_text(sm160_datagram::options_of(bytes), NAME_AT)
-        | (sm160_datagram::data_of(bytes).len() != 0)
+    bad_text(options, NAME_AT) | (bytes.len() != options.len() + 18)
 }
 
-fn bad_reply(bytes: &[u8]) -> bool
-    ensures { λ r. ⌜ r ≡ badReply (now (bytes .entry)) ⌝ }
-{
-    bad_text(sm160_datagram::options_of(bytes), MESSAGE_AT)
-}
-
-// The number of the first rule that holds of a datagram of a type, with what is bad of it; 0 for none.
-fn file_fault(bytes: &[u8], kind: u8, bad: bool) -> u8
-    ensures { λ r. ⌜ r ≡ first (fileRules kind bad (now (bytes .entry))) ⌝ }
+// The number of the first rule that holds of a datagram by itself and of its type, 0 for none.
+fn type_fault(bytes: &[u8], kind: u8) -> u8
+    ensures { λ r. ⌜ r ≡ first (typeRules kind (now (bytes .entry))) ⌝ }
 {
     let by_itself = sm160_datagram::fault_of(bytes);
     if by_itself != 0 {
@@ -86,20 +82,20 @@ fn file_fault(bytes: &[u8], kind: u8, bad: bool) -> u8
     if other_type(bytes, kind) {
         return 35;
     }
-    if bad {
-        return 36;
-    }
     0
 }
 
 pub fn read_request(bytes: &[u8]) -> RequestRead
     ensures { λ r. ⌜ r ≡ readRequest (now (bytes .entry)) ⌝ }
 {
-    let fault = file_fault(bytes, REQUEST, bad_request(bytes));
+    let fault = type_fault(bytes, REQUEST);
     if fault != 0 {
         return RequestRead::Refused(fault);
     }
     let options = sm160_datagram::options_of(bytes);
+    if bad_request(bytes, options) {
+        return RequestRead::Refused(36);
+    }
     RequestRead::Request {
         offset: wire::le64_at(options, 0),
         size: wire::le64_at(options, 8),
@@ -116,11 +112,15 @@ pub fn name_of(bytes: &[u8]) -> &[u8]
 pub fn read_reply(bytes: &[u8]) -> ReplyRead
     ensures { λ r. ⌜ r ≡ readReply (now (bytes .entry)) ⌝ }
 {
-    let fault = file_fault(bytes, REPLY, bad_reply(bytes));
+    let fault = type_fault(bytes, REPLY);
     if fault != 0 {
         return ReplyRead::Refused(fault);
     }
-    ReplyRead::Reply(wire::le32_at(sm160_datagram::options_of(bytes), 0))
+    let options = sm160_datagram::options_of(bytes);
+    if bad_text(options, MESSAGE_AT) {
+        return ReplyRead::Refused(36);
+    }
+    ReplyRead::Reply(wire::le32_at(options, 0))
 }
 
 // The message of a reply, as a part of its bytes.

@@ -7,6 +7,9 @@
 // The limit that a receiver is opened with is that of the part, without the frame's header of 12 bytes. What 001's printed traffic agrees on is
 // 80 with the header: its parts have 68 bytes at most, and 68 is what the host opens with. Where nothing was agreed on, it opens with 240.
 //
+// A file is a datagram (`sm160_datagram`), and none other is completed: with END the bytes held and the new part are judged as one, before anything is
+// stored. After 37, 38 or 39 all is as it was, and the file goes on from the count, or anew from START. Where a held byte is wrong only START mends it.
+//
 // After a time-out a controller may resume with another part size: the host goes on feeding. The count of the state is the place to resume
 // from (0: from START), and parts of any size up to the limit are taken there; one from below it is refused with 29, one from above it with 30.
 ghost use mathlib.Core.Path.{_≡_};

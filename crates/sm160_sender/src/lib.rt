@@ -1,4 +1,5 @@
-// The sender of a file: one frame a call. The caller goes on at the answered place, until that is the file's end. What it answers is in specs/.
+// The sender of a file, which is a datagram (`sm160_datagram`): one frame a call. The caller goes on at the answered place, until that is the file's
+// end. The whole file is judged at each call, since nothing is kept between two. What it answers is in specs/.
 ghost use mathlib.Core.Path.{_≡_};
 ghost use Rattle.wire.specs.Refusal.{first};
 ghost use Rattle.sm160_sender.specs.Sending.{partAt, flagsFor, badFile, pastEnd, noRoom, placeRules, sendRules, Sends};
