@@ -194,20 +194,41 @@ static void check_send(const uint8_t *file, size_t n, size_t largest, size_t pla
     *good += !a.refused;
 }
 
-static void check_read_card(const uint8_t *p, size_t n, unsigned *good)
+static bool same_fields(struct fields a, struct fields b)
 {
-    struct fields a = rattle_read_card(p, n), b = plain_read_card(p, n);
-    if (a.refused != b.refused || a.channel != b.channel || a.year != b.year || a.month != b.month || a.day != b.day || a.hour != b.hour
-        || a.minute != b.minute || a.second != b.second || a.kind != b.kind || a.address != b.address || a.bits != b.bits) differ("read_card");
-    *good += !a.refused;
+    return a.refused == b.refused && a.channel == b.channel && a.year == b.year && a.month == b.month && a.day == b.day && a.hour == b.hour
+        && a.minute == b.minute && a.second == b.second && a.kind == b.kind && a.address == b.address && a.bits == b.bits;
 }
 
-static void check_write_card(struct fields c, size_t room, unsigned *good)
+/* As a card of either form, and moved to the other. */
+static void check_read_card(const uint8_t *p, size_t n, unsigned *good, unsigned *moved)
 {
     uint8_t one[40], other[40];
+    size_t room = 16 + chance(10);
+    struct fields a = rattle_read_card(p, n), b = plain_read_card(p, n);
+    if (!same_fields(a, b)) differ("read_card");
+    struct archive_fields c = rattle_read_archive_card(p, n), d = plain_read_archive_card(p, n);
+    if (!same_fields(c.card, d.card) || c.archive != d.archive) differ("read_archive_card");
+    *good += !a.refused + !c.card.refused;
+    memset(one, 0x5A, sizeof one), memset(other, 0x5A, sizeof other);
+    uint8_t e = rattle_to_archive_card(p, n, one, room), f = plain_to_archive_card(p, n, other, room);
+    if (e != f || memcmp(one, other, sizeof one)) differ("to_archive_card");
+    *moved += !e;
+    e = rattle_to_card(p, n, one, room), f = plain_to_card(p, n, other, room);
+    if (e != f || memcmp(one, other, sizeof one)) differ("to_card");
+    *moved += !e;
+}
+
+/* In both forms, the new one most often with a good archive kind. */
+static void check_write_card(struct fields c, size_t room, unsigned *good)
+{
+    uint8_t one[40], other[40], archive = chance(9) ? chance(6) : chance(256);
     memset(one, 0x5A, sizeof one), memset(other, 0x5A, sizeof other);
     uint8_t a = rattle_write_card(c, one, room), b = plain_write_card(c, other, room);
     if (a != b || memcmp(one, other, sizeof one)) differ("write_card");
+    *good += !a;
+    a = rattle_write_archive_card(c, archive, one, room), b = plain_write_archive_card(c, archive, other, room);
+    if (a != b || memcmp(one, other, sizeof one)) differ("write_archive_card");
     *good += !a;
 }
 
@@ -221,7 +242,7 @@ static void check_clock(struct date meter, struct date cabinet, unsigned *good)
 static int check(void)
 {
     static uint8_t p[10000], file[1000];
-    unsigned frames = 0, lines = 0, texts = 0, made = 0, received = 0, whole = 0, datagrams = 0, files = 0, put = 0, sent = 0, clocks = 0, read = 0, written = 0;
+    unsigned frames = 0, lines = 0, texts = 0, made = 0, received = 0, whole = 0, datagrams = 0, files = 0, put = 0, sent = 0, clocks = 0, read = 0, moved = 0, written = 0;
     for (size_t n = 0; n < 600; n++) {
         random_bytes(p, n);
         if (rattle_checksum(p, n) != plain_checksum(p, n)) differ("checksum");
@@ -302,12 +323,16 @@ static int check(void)
         struct fields c = make_fields();
         check_write_card(c, 16 + chance(10), &written);
         plain_write_card(c, p, 17);
-        check_read_card(p, 17, &read);
+        check_read_card(p, 17, &read, &moved);
         damage(p, 17);
-        check_read_card(p, 17 - !chance(9), &read);
+        check_read_card(p, 17 - !chance(9), &read, &moved);
+        plain_write_archive_card(c, chance(2) ? 0 : chance(5), p, 18);
+        check_read_card(p, 18, &read, &moved);
+        for (int k = chance(3); k >= 0; k--) damage(p, 18);
+        check_read_card(p, 18 + !chance(9), &read, &moved);
         random_bytes((uint8_t *)&c, sizeof c);
         c.refused = 0, c.kind &= 3;
-        check_write_card(c, 17, &written);
+        check_write_card(c, 17 + chance(2), &written);
         c = make_fields();
         switch (chance(8)) {
         case 0: c.address = chance(2) ? 0 : 99999999 + chance(2); break;
@@ -319,11 +344,11 @@ static int check(void)
         case 6: c.minute = 59 + chance(2); break;
         default: c.second = 59 + chance(2);
         }
-        check_write_card(c, 17, &written);
+        check_write_card(c, 17 + chance(2), &written);
     }
-    fprintf(stderr, "the same answers: 600 checksums and CRC-32s, as many in two stretches, 60,000 frames at the meter and at the master (%u accepted), 60,000 RTU lines (%u), 60,000 ASCII lines (%u) and 20,000 written (%u), 40,000 parts (%u, %u of them the last), 100,000 datagrams (%u, %u of them for a file) and 60,000 written (%u), 100,000 parts sent (%u), 60,000 clocks (%u), 40,000 cards read (%u) and 60,000 written (%u)\n",
-            frames, lines, texts, made, received, whole, datagrams, files, put, sent, clocks, read, written);
-    if (frames < 35000 || lines < 19000 || texts < 10000 || made < 10000 || received < 1000 || whole < 1000 || datagrams < 40000 || files < 20000 || put < 20000 || sent < 20000 || clocks < 20000 || read < 20000 || written < 20000) {
+    fprintf(stderr, "the same answers: 600 checksums and CRC-32s, as many in two stretches, 60,000 frames at the meter and at the master (%u accepted), 60,000 RTU lines (%u), 60,000 ASCII lines (%u) and 20,000 written (%u), 40,000 parts (%u, %u of them the last), 100,000 datagrams (%u, %u of them for a file) and 60,000 written (%u), 100,000 parts sent (%u), 60,000 clocks (%u), 80,000 cards read in both forms (%u) and moved both ways (%u), 60,000 written in both (%u)\n",
+            frames, lines, texts, made, received, whole, datagrams, files, put, sent, clocks, read, moved, written);
+    if (frames < 35000 || lines < 19000 || texts < 10000 || made < 10000 || received < 1000 || whole < 1000 || datagrams < 40000 || files < 20000 || put < 20000 || sent < 20000 || clocks < 20000 || read < 40000 || moved < 30000 || written < 30000) {
         fprintf(stderr, "too few inputs are accepted\n");
         return 1;
     }
@@ -346,6 +371,13 @@ int main(int argc, char **argv)
         for (size_t i = 0; i < n; i++) {
             plain_write_card(make_fields(), p, 17);
             fwrite(p, 17, 1, stdout);
+        }
+        return 0;
+    }
+    if (!strcmp(work, "cards18")) { /* and of the new form */
+        for (size_t i = 0; i < n; i++) {
+            plain_write_archive_card(make_fields(), i % 5, p, 18);
+            fwrite(p, 18, 1, stdout);
         }
         return 0;
     }
@@ -419,6 +451,22 @@ int main(int argc, char **argv)
         for (int i = 0; i < 401; i++) dates[i] = make_date();
         for (size_t r = 0; r < reps; r++)
             for (size_t i = 0; i < n; i++) sum += BOTH(clock_difference, dates[i], dates[i + 1]).seconds;
+    } else if (!strcmp(work, "read18")) {
+        for (int i = 0; i < 400; i++) plain_write_archive_card(make_fields(), i % 5, p + 18 * i, 18);
+        for (size_t r = 0; r < reps; r++)
+            for (size_t i = 0; i < n; i++) sum += BOTH(read_archive_card, p + 18 * i, 18).card.bits;
+    } else if (!strcmp(work, "write18")) {
+        for (int i = 0; i < 400; i++) cards[i] = make_fields();
+        for (size_t r = 0; r < reps; r++)
+            for (size_t i = 0; i < n; i++) sum += BOTH(write_archive_card, cards[i], 1, buffer, 18) + buffer[3];
+    } else if (!strcmp(work, "to18")) {
+        for (int i = 0; i < 400; i++) plain_write_card(make_fields(), p + 17 * i, 17);
+        for (size_t r = 0; r < reps; r++)
+            for (size_t i = 0; i < n; i++) sum += BOTH(to_archive_card, p + 17 * i, 17, buffer, 18) + buffer[3];
+    } else if (!strcmp(work, "to17")) {
+        for (int i = 0; i < 400; i++) plain_write_archive_card(make_fields(), 0, p + 18 * i, 18);
+        for (size_t r = 0; r < reps; r++)
+            for (size_t i = 0; i < n; i++) sum += BOTH(to_card, p + 18 * i, 18, buffer, 17) + buffer[3];
     } else {
         for (int i = 0; i < 400; i++) {
             cards[i] = make_fields();

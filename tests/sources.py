@@ -134,7 +134,8 @@ def atoms(text):
 
 
 class Rule(NamedTuple):
-    """A number with its condition, or a list that is taken in (with no number), with its arguments. A name is a definition, or the place of a parameter."""
+    """A number with its condition; a list that is taken in (with no number), with its arguments; or the lists that a form of the card names ("form"). A name is a
+    definition, or the place of a parameter."""
     number: str
     name: object
     arguments: tuple = ()
@@ -155,9 +156,12 @@ def clauses(key):
             return parameters.index(first) if first in parameters else target(first, crate, file, KNOWN[key].imports)
 
         run = []
-        for token in re.finditer(rf"{RULE.pattern}(\S+)|{WORD.pattern}", right):
+        for token in re.finditer(rf"{RULE.pattern}(\S+)|(\w+) \.rules\b|{WORD.pattern}", right):
             if token.group(1):
                 run.append(Rule(token.group(1), meant(token.group(2)) if WORD.match(token.group(2)) else None))
+                continue
+            if token.group(3):
+                run.append(Rule("form", meant(token.group(3))))
                 continue
             other = target(token.group(), crate, file, KNOWN[key].imports)
             if other and other != key and lists_rules(other):
@@ -171,10 +175,18 @@ def rules(key, given=()):
         def found(name):
             return name if not isinstance(name, int) else given[name] if name < len(given) else key
 
-        if rule.number:
+        if rule.number == "form":
+            for own in filter(lists_rules, named(found(rule.name))):
+                yield from rules(own)
+        elif rule.number:
             yield Rule(rule.number, found(rule.name))
         else:
             yield from rules(rule.name, tuple(map(found, rule.arguments)))
+
+
+def is_form(key):
+    """Whether a definition is a form of the card: its rules are asked where a list takes them in, and nowhere else."""
+    return KNOWN[key].signature.strip().endswith(": Form")
 
 
 def nearest_lists(contract, imports):
@@ -184,7 +196,7 @@ def nearest_lists(contract, imports):
         seen |= set(level)
         if lists := [k for k in level if lists_rules(k)]:
             return lists
-        level = [t for k in level for t in named(k)]
+        level = [t for k in level if not is_form(k) for t in named(k)]
     return []
 
 

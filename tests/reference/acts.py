@@ -1,4 +1,7 @@
 """The acts of CASES.md: what each answers, as the words of its line, and which refusal numbers it can give."""
+from functools import partial
+
+import archive
 import card
 import clock
 import datagram
@@ -227,11 +230,22 @@ def long_text(numbers, strings):
     return told(refusal, length) + [crc32(output)]
 
 
-def write_card(numbers, strings):
-    address, channel, date, kind, bits = numbers
-    _, output = strings
-    refusal, length, output = card.write_card(address, channel, six(date), kind, bits, output)
-    return told(refusal, length) + [output]
+def card_writer(form):
+    """Its date is given as one number, and there is no first byte string."""
+    def write(address, channel, date, *others):
+        *others, _, output = others
+        return card.write_card((address, channel, *six(date), *others), output, form)
+    return writer(write)
+
+
+def put_lines(form, cards, output):
+    return card.put_lines(cards, output, card.FORMS[form])
+
+
+def archive_numbers(numbers, strings):
+    """The number of a source and that of an archive kind, there and back."""
+    source, kind = numbers
+    return told(0, archive.source_number(archive.source_from(source)), archive.type_number(archive.type_from(kind)))
 
 
 def clock_difference(numbers, strings):
@@ -273,8 +287,15 @@ ACTS = {
     43: ("receive", [20, 21, 22, 23, 24, 25, 26, 27, 28, 29, 30, 31, 37, 38, 39], receive),
     44: ("open", [33], open_receiver),
     50: ("read_card", [50, 51, 52, 53, 54], reader(card.read_card)),
-    51: ("write_card", [52, 53, 55, 16], write_card),
+    51: ("write_card", [52, 53, 55, 16], card_writer(card.CARD)),
     52: ("put_line", [16], writer(card.put_line)),
+    53: ("read_archive_card", [50, 51, 52, 53, 54, 56], reader(partial(card.read_card, form=card.ARCHIVE_CARD))),
+    54: ("write_archive_card", [52, 53, 55, 56, 16], card_writer(card.ARCHIVE_CARD)),
+    55: ("to_archive_card", [50, 51, 52, 53, 54, 16], writer(card.to_archive_card)),
+    56: ("to_card", [50, 51, 52, 53, 54, 56, 57, 16], writer(card.to_card)),
+    57: ("put_line, archive", [16], writer(partial(card.put_line, form=card.ARCHIVE_CARD))),
+    58: ("put_lines", [16], writer(put_lines)),
+    59: ("archive numbers", [], archive_numbers),
     60: ("clock_difference", [13, 53], clock_difference),
     61: ("sum_byte", [], sum_byte),
     62: ("sum_from", [], sum_stretches),

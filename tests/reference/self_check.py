@@ -1,4 +1,4 @@
-"""The reference against what it was not made from: printed traffic, published check values and functions, 01's edges and its card, python's calendar and CRC-32."""
+"""The reference against what it was not made from: printed traffic, published check values and functions, 01's edges, cards by hand, python's calendar and CRC-32."""
 import calendar
 import datetime
 import itertools
@@ -23,6 +23,10 @@ from printed import ASCII_LINES, DATAGRAMS, FILE_REQUEST, FRAMES, MODBUS_LINES, 
 
 CARD = bytes.fromhex("00 00 00 20 00 21 00 00 40 00 00 00 00 00 00 00 A0")
 LISTING = "address;channel;time;kind;bits\n00000001;1;2000-01-01 00:00:00;2;0000000000000005\n"
+# 02, W-210, by hand: the same card moved, and with archive kind 4. After the value's last three bits, 101, come 000 or 100, and ten zeros.
+MOVED = bytes.fromhex("00 00 00 20 00 21 00 00 40 00 00 00 00 00 00 00 A0 00")
+HALF_HOURLY = bytes.fromhex("00 00 00 20 00 21 00 00 40 00 00 00 00 00 00 00 B0 00")
+ARCHIVE_LISTING = "address;channel;time;kind;bits;archive\n00000001;1;2000-01-01 00:00:00;2;0000000000000005;4\n"
 
 
 def same(what, got, due):
@@ -248,7 +252,7 @@ def edges():
     same("a NaN beside itself", readings.same(0, 0x7FC00000, 0, 0x7FC00000), True)
     same("both zeros", readings.same(0, 0, 0, 0x80000000), False)
     same("01's card", card.read_card(CARD), (0, (1, 1, 0, 1, 1, 0, 0, 0, 2, 5)))
-    same("01's card written", card.write_card(1, 1, (0, 1, 1, 0, 0, 0), 2, 5, bytes(17)), (0, 17, CARD))
+    same("01's card written", card.write_card((1, 1, 0, 1, 1, 0, 0, 0, 2, 5), bytes(17)), (0, 17, CARD))
     part = bytes(range(68))
     for offset, due in ((141, 0), (73, 29), (142, 30)):
         refusal, answer, _, buffer = sm160.receive((2, 240, True, 141), sm160.frame_bytes(2, offset, 0, part), bytes(400))
@@ -265,6 +269,53 @@ def lister():
     same("01's card's line", card.put_line(0, CARD, bytes(50)), (0, 50, LISTING.splitlines(True)[1].encode()))
     same("no input", card.listing(b""), "address;channel;time;kind;bits\n")
     same("a short last card", card.listing(CARD + CARD[:16]), LISTING + "refused 50\n")
+
+
+def archive_cards():
+    """02, W-210, both sides of each edge; and the other lister."""
+    form = card.ARCHIVE_CARD
+    values = (1, 1, 0, 1, 1, 0, 0, 0, 2, 5)
+    for each in card.FORMS:
+        same("bits of a form", sum(size for _, size in each.layout), 8 * each.length)
+    for kind, whole in ((0, MOVED), (4, HALF_HOURLY)):
+        same("01's card in the other form", card.read_card(whole, form), (0, (*values, kind)))
+        same("the same written", card.write_card((*values, kind), b"\x5A" * 19, form), (0, 18, whole + b"\x5A"))
+    same("01's card moved", card.to_archive_card(CARD, b"\x5A" * 19), (0, 18, MOVED + b"\x5A"))
+    same("and back", card.to_card(MOVED, b"\x5A" * 18), (0, 17, CARD + b"\x5A"))
+    same("moved into 17 bytes", card.to_archive_card(CARD, bytes(17)), (16, None, bytes(17)))
+    same("back into 16 bytes", card.to_card(MOVED, bytes(16)), (16, None, bytes(16)))
+    for output in (b"", bytes(17)):
+        same("back with archive kind 4", card.to_card(HALF_HOURLY, output), (57, None, output))
+    for last, due in (("B400", 56), ("BC00", 56), ("A001", 51), ("A200", 51), ("B600", 51)):
+        wrong = MOVED[:16] + bytes.fromhex(last)
+        same(f"a card that ends with {last}", (card.read_card(wrong, form)[0], card.to_card(wrong, bytes(17))[0]), (due, due))
+    for kind, due in ((4, 0), (5, 56), (255, 56)):
+        same(f"archive kind {kind} written", card.write_card((*values, kind), bytes(18), form)[0], due)
+    same("of the other form", (card.read_card(CARD, form)[0], card.to_card(CARD, bytes(18))[0], card.to_archive_card(MOVED, bytes(18))[0]), (50, 50, 50))
+    same("the listing", card.archive_listing(HALF_HOURLY), ARCHIVE_LISTING)
+    same("its line", card.put_line(0, HALF_HOURLY, bytes(52), form), (0, 52, ARCHIVE_LISTING.splitlines(True)[1].encode()))
+    same("no input", card.archive_listing(b""), "address;channel;time;kind;bits;archive\n")
+    same("a short last card", card.archive_listing(HALF_HOURLY + MOVED[:17]), ARCHIVE_LISTING + "refused 50\n")
+    for each in card.FORMS:
+        same("the lines of no card", card.put_lines(b"", b"\x5A", each), (0, 0, b"\x5A"))
+        same("with a byte too few", card.put_lines(MOVED[:each.length + 1], bytes(10), each)[0], 16)
+
+
+def both_forms():
+    """Any card, written and read, moved there and back; in numbers, the one without its 5 spare bits is the other without its last 13."""
+    rng = random.Random(210)
+    for _ in range(200):
+        at = datetime.datetime(2000, 1, 1) + datetime.timedelta(seconds=rng.randrange(3_155_760_000))
+        value_kind, kind = rng.randrange(4), rng.randrange(5)
+        values = (rng.randint(1, 99_999_999), rng.randint(1, 32), at.year - 2000, at.month, at.day, at.hour, at.minute, at.second,
+                  value_kind, rng.getrandbits(64 if value_kind % 2 else 32))
+        old = card.write_card(values, bytes(17))[2]
+        new = card.write_card((*values, kind), bytes(18), card.ARCHIVE_CARD)[2]
+        same("read back", (card.read_card(old), card.read_card(new, card.ARCHIVE_CARD)), ((0, values), (0, (*values, kind))))
+        same("in numbers", int.from_bytes(new, "big"), int.from_bytes(old, "big") >> 5 << 13 | kind << 10)
+        same("moved", card.to_archive_card(old, bytes(18)), (0, 18, old + b"\x00"))
+        same("moved back", card.to_card(old + b"\x00", bytes(17)), (0, 17, old))
+        same("any kind back", card.to_card(new, bytes(17)), (57, None, bytes(17)) if kind else (0, 17, old))
 
 
 def on_its_way():
@@ -325,7 +376,8 @@ def seconds():
 
 def check():
     for one in (checksums, crc32s, printed_frames, printed_sessions, counted_from_start, printed_datagrams, datagram_edges, texts, sent_and_received,
-                modbus_examples, functions_of_003, ascii_lengths, edges, on_its_way, agreed_part, lister, collector, dates, seconds):
+                modbus_examples, functions_of_003, ascii_lengths, edges, on_its_way, agreed_part, lister, archive_cards, both_forms,
+                collector, dates, seconds):
         one()
 
 

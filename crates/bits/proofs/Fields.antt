@@ -28,6 +28,15 @@ joined-below [] vs = tt
 joined-below (w ∷ ws) vs =
     each-append Bit (bits w (getD vs 0 0)) (joined ws (drop 1 vs)) (bits-below w (getD vs 0 0)) (joined-below ws (drop 1 vs))
 
+-- fields after fields
+pub joined-append : (ws vs ws′ vs′ : List ℕ) → length ws ≡ length vs → joined (ws ++ ws′) (vs ++ vs′) ≡ joined ws vs ++ joined ws′ vs′
+unfolding joined
+joined-append [] [] ws′ vs′ e = refl
+joined-append [] (v ∷ vs) ws′ vs′ e = absurd (omega arith)
+joined-append (w ∷ ws) [] ws′ vs′ e = absurd (omega arith)
+joined-append (w ∷ ws) (v ∷ vs) ws′ vs′ e =
+    ap (λ (l : List ℕ). bits w v ++ l) (joined-append ws vs ws′ vs′ (omega arith)) ∙ sym (append-assoc (bits w v) (joined ws vs) (joined ws′ vs′))
+
 -- the value of one field
 pub value-of : (ws : List ℕ) (at k : ℕ) (bs : List ℕ) → getD (valuesFrom ws at bs) k 0 ≡ ofBits (field bs (at + total (take k ws)) (getD ws k 0))
 unfolding valuesFrom total ofBits number field

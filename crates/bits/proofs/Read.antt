@@ -3,17 +3,17 @@
 use mathlib.Core.Path.{_≡_, refl, sym, ap, ap₂, _∙_, subst}
 use mathlib.Core.List.{List, [], _∷_, _++_}
 use Prim.Native.Nat.{ℕ, zero, suc, _+_, _-_, _*_, _/_, _%_, _^_, _≤_, _<_}
-use native.Mathlib.Nat.{add-assoc, mod-eq-of-lt, lt-of-lt-of-le}
+use native.Mathlib.Nat.{add-zero, zero-add, add-assoc, mod-eq-of-lt, lt-of-lt-of-le}
 use native.Mathlib.Numerals.{add-one}
 use native.Mathlib.Omega.{arith}
 use lib.ListN.{getD, take}
 use lib.Seq.{drop-at}
 use lib.Pow.{pow-mono}
 use Rattle.wire.specs.Numbers.{digits, field}
-use Rattle.wire.proofs.Fields.{field-at}
+use Rattle.wire.proofs.Fields.{field-at, field-append}
 use Rattle.wire.proofs.Turns.{field-drop}
 use Rattle.bits.specs.Bits.{bits, ofBits, bitsIn}
-use Rattle.bits.specs.Fields.{total}
+use Rattle.bits.specs.Fields.{valuesFrom, unpacked, total}
 use Rattle.bits.proofs.Bits.{length-bits, ofBits-bits, bitsIn-below, field-lt}
 use Rattle.bits.proofs.Cut.{field-join, first-part, last-part}
 
@@ -96,3 +96,40 @@ total-next (w ∷ ws) (suc i) = ap (λ (n : ℕ). w + n) (total-next ws i) ∙ s
 
 pub total-more : (ws : List ℕ) (i : ℕ) → total (take (i + 1) ws) ≡ total (take i ws) + getD ws i 0
 total-more ws i = ap (λ (k : ℕ). total (take k ws)) (add-one i) ∙ total-next ws i
+
+-- ---- fields that lie in the first n bytes
+bytes-in : (s : List ℕ) (at n : ℕ) → bitsIn (field s at n) ≡ field (bitsIn s) (8 * at) (8 * n)
+unfolding bitsIn field
+bytes-in s at zero = refl
+bytes-in s at (suc n) =
+    let next : 8 * (at + 1) ≡ 8 * at + 8 = omega arith in
+    let all : 8 + 8 * n ≡ 8 * suc n = omega arith in
+    ap₂ (λ (x y : List ℕ). x ++ y) (sym (byte-bits s at)) (bytes-in s (at + 1) n ∙ ap (λ (k : ℕ). field (bitsIn s) k (8 * n)) next)
+    ∙ sym (field-append (bitsIn s) (8 * at) 8 (8 * n))
+    ∙ ap (field (bitsIn s) (8 * at)) all
+
+getD-field : (bs : List ℕ) (i m k : ℕ) → k < m → getD (field bs i m) k 0 ≡ getD bs (i + k) 0
+unfolding field
+getD-field bs i zero k h = absurd (omega arith)
+getD-field bs i (suc m) zero h = ap (λ (j : ℕ). getD bs j 0) (sym (add-zero i))
+getD-field bs i (suc m) (suc k) h =
+    let e : i + 1 + k ≡ i + suc k = omega arith in
+    getD-field bs (i + 1) m k (omega arith) ∙ ap (λ (j : ℕ). getD bs j 0) e
+
+field-within : (bs : List ℕ) (m at w : ℕ) → at + w ≤ m → field (field bs 0 m) at w ≡ field bs at w
+unfolding field
+field-within bs m at zero h = refl
+field-within bs m at (suc w) h =
+    ap₂ (λ (x : ℕ) (l : List ℕ). x ∷ l) (getD-field bs 0 m at (omega arith) ∙ ap (λ (j : ℕ). getD bs j 0) (zero-add at)) (field-within bs m (at + 1) w (omega arith))
+
+values-within : (ws : List ℕ) (at : ℕ) (bs : List ℕ) (m : ℕ) → at + total ws ≤ m → valuesFrom ws at (field bs 0 m) ≡ valuesFrom ws at bs
+unfolding valuesFrom total
+values-within [] at bs m h = refl
+values-within (w ∷ ws) at bs m h =
+    let here : at + w ≤ m = omega arith in
+    let more : at + w + total ws ≤ m = omega arith in
+    ap₂ (λ (x : ℕ) (l : List ℕ). x ∷ l) (ap ofBits (field-within bs m at w here)) (values-within ws (at + w) bs m more)
+
+pub unpacked-front : (ws s : List ℕ) (n : ℕ) → total ws ≤ 8 * n → unpacked ws (field s 0 n) ≡ unpacked ws s
+unpacked-front ws s n h =
+    ap (valuesFrom ws 0) (bytes-in s 0 n) ∙ values-within ws 0 (bitsIn s) (8 * n) (omega arith)

@@ -6,19 +6,19 @@ use Prim.Native.Nat.{ℕ, zero, suc, _+_, _-_, _*_, _/_, _%_, _^_, _≤_, _<_}
 use native.Mathlib.Nat.{add-zero, zero-add, add-assoc, suc-add, zero-mul, add-mul, mul-assoc, zero-mod}
 use native.Mathlib.Numerals.{add-one}
 use native.Mathlib.Omega.{arith}
-use lib.ListN.{length, getD, drop, drop-of-length-le}
-use lib.Seq.{sets, drop-cons, drop-drop, drop-at, getD-drop}
+use lib.ListN.{length, getD, drop, length-append, length-drop, drop-of-length-le}
+use lib.Seq.{sets, take-append-le, drop-append-le, drop-cons, drop-drop, drop-at, getD-drop}
 use lib.Pow.{pow-add, field as pow-field}
 use Rattle.wire.specs.Numbers.{digits, number, be, field}
 use Rattle.wire.specs.Each.{Each}
 use Rattle.wire.proofs.Each.{each-drop}
-use Rattle.wire.proofs.Fields.{length-field, field-at}
+use Rattle.wire.proofs.Fields.{length-field, field-take, field-at}
 use Rattle.wire.proofs.Turns.{field-of-rest}
 use Rattle.wire.proofs.Writing.{sets-then}
 use Rattle.bits.specs.Bits.{Bit, bits, ofBits, bytesOf}
-use Rattle.bits.specs.Fields.{joined}
+use Rattle.bits.specs.Fields.{joined, packed, total}
 use Rattle.bits.proofs.Bits.{length-bits, ofBits-low, ofBits-append, length-bytesOf}
-use Rattle.bits.proofs.Fields.{joined-below}
+use Rattle.bits.proofs.Fields.{length-joined, joined-below, joined-append}
 use Rattle.bits.proofs.Cut.{field-join, first-part, last-part, times-mod}
 
 -- ---- the 64 bits before a place
@@ -120,6 +120,29 @@ bytes-plus (suc n) m bs =
     ap (λ (k : ℕ). bytesOf k bs) (suc-add n m)
     ∙ ap (λ (l : List ℕ). ofBits (field bs 0 8) ∷ l)
     (bytes-plus n m (drop 8 bs) ∙ ap (λ (l : List ℕ). bytesOf n (drop 8 bs) ++ bytesOf m l) (drop-drop (8 * n) 8 bs ∙ ap (λ (k : ℕ). drop k bs) e))
+
+-- bits that are left after n bytes do not change them
+bytes-front : (n : ℕ) (xs ys : List ℕ) → 8 * n ≤ length xs → bytesOf n (xs ++ ys) ≡ bytesOf n xs
+unfolding bytesOf
+bytes-front zero xs ys h = refl
+bytes-front (suc n) xs ys h =
+    let some : 8 ≤ length xs = omega arith in
+    let both : 0 + 8 ≤ length (xs ++ ys) = rw (length-append xs ys) (omega arith) in
+    let more : 8 * n ≤ length (drop 8 xs) = rw (length-drop 8 xs) (omega arith) in
+    ap₂ (λ (x : ℕ) (l : List ℕ). x ∷ l)
+    (ap ofBits (field-take (xs ++ ys) 0 8 both ∙ take-append-le 8 xs ys some ∙ sym (field-take xs 0 8 some)))
+    (ap (bytesOf n) (drop-append-le 8 xs ys some) ∙ bytes-front n (drop 8 xs) ys more)
+
+-- fields that fill n bytes, and after them others
+pub packed-append : (n m : ℕ) (ws vs ws′ vs′ : List ℕ) → total ws ≡ 8 * n → length ws ≡ length vs
+    → packed (n + m) (ws ++ ws′) (vs ++ vs′) ≡ packed n ws vs ++ packed m ws′ vs′
+packed-append n m ws vs ws′ vs′ filled e =
+    let xs = joined ws vs in
+    let ys = joined ws′ vs′ in
+    let long : length xs ≡ 8 * n = length-joined ws vs ∙ filled in
+    ap (bytesOf (n + m)) (joined-append ws vs ws′ vs′ e)
+    ∙ bytes-plus n m (xs ++ ys)
+    ∙ ap₂ (λ (x y : List ℕ). x ++ bytesOf m y) (bytes-front n xs ys (omega arith)) (drop-at xs ys (8 * n) long)
 
 -- stored after those that are stored
 pub bytes-then : (out bs : List ℕ) (i m : ℕ) → sets (sets out 0 (bytesOf i bs)) i (bytesOf m (drop (8 * i) bs)) ≡ sets out 0 (bytesOf (i + m) bs)

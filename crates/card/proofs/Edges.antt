@@ -7,16 +7,16 @@ use Rattle.wire.specs.Told.{AllHold}
 use Rattle.bits.specs.Bits.{bits, ofBits, bitsIn, bytesOf}
 use Rattle.bits.specs.Fields.{joined, valuesFrom}
 use Rattle.date.specs.Date.{isDate}
-use Rattle.card.specs.Layout.{cardBytes, fieldOf, spareOf}
+use Rattle.card.specs.Layout.{fieldOf, afterFields, cardBytes}
 use Rattle.card.specs.Reading.{readCard}
 use Rattle.card.specs.Edges.{printed, changed, cardEdges, cardBeside}
 
 pub card-edges : AllHold cardEdges
-unfolding digits number field pick bits ofBits bitsIn valuesFrom isDate fieldOf spareOf readCard
+unfolding digits number field pick bits ofBits bitsIn valuesFrom isDate fieldOf afterFields readCard
 card-edges = (refl, tt)
 
 pub card-beside : AllHold cardBeside
-unfolding digits number field pick bits ofBits bitsIn bytesOf joined valuesFrom isDate cardBytes fieldOf spareOf readCard
+unfolding digits number field pick bits ofBits bitsIn bytesOf joined valuesFrom isDate cardBytes fieldOf afterFields readCard
 card-beside = (refl, (refl, (refl, (refl, (refl, (refl, (refl, (refl, (refl, (refl, (refl, tt)))))))))))
 
 pub printed-card : cardBytes (changed 1 1 1) ≡ printed

@@ -1,4 +1,4 @@
-pub mod Fields
+pub mod Widths
 pub mod Written
 pub mod Parts
 pub mod Form

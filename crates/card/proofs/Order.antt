@@ -1,18 +1,27 @@
--- First in order and only when its condition holds: the number told is that of the first rule, for the reader and the writer.
+-- First in order and only when its condition holds: the number told is that of the first rule, for the judge, the reader and the writer.
 -- Assumes nothing.
-use mathlib.Core.Path.{refl}
+use mathlib.Core.Path.{_≡_, refl, sym}
 use mathlib.Core.List.{List}
 use Prim.Native.Nat.{ℕ}
 use Rattle.wire.specs.Refusal.{first, FirstInOrder}
 use Rattle.wire.specs.Writes.{Writes, toldWritten}
 use Rattle.wire.specs.declared.Written.{Written}
-use Rattle.wire.proofs.Answer.{answer-first}
+use Rattle.wire.proofs.Answer.{told-number, answer-first}
+use Rattle.wire.proofs.Refusal.{in-order}
 use Rattle.wire.proofs.Writes.{written-first}
 use Rattle.card.specs.Layout.{cardBytes, cardOf}
 use Rattle.card.specs.Reading.{readRules, readCard, toldCardRead}
 use Rattle.card.specs.Writing.{writeRules}
 use Rattle.card.specs.declared.Card.{Card}
 use Rattle.card.specs.declared.CardRead.the-variants as R
+
+pub fault-first : (s : List ℕ) (r : ℕ) → r ≡ first (readRules s) → FirstInOrder (readRules s) r
+fault-first s r e = in-order (readRules s) r tt (sym e)
+
+-- the number that the reader tells is the first rule's
+pub read-told : (s : List ℕ) → first (readRules s) ≡ toldCardRead (readCard s) .number
+unfolding readCard
+read-told s = told-number R.Refused (R.Card (cardOf s)) (λ x. toldCardRead x .number) (λ n. refl) refl (first (readRules s))
 
 pub read-first : (s : List ℕ) → FirstInOrder (readRules s) (toldCardRead (readCard s) .number)
 unfolding readCard

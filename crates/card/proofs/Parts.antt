@@ -24,6 +24,12 @@ bits-of-made K.F64 n e = refl
 bits-of-made K.U32 n e = low-half n e
 bits-of-made K.U64 n e = refl
 
+pub made-fits : (k : Kind) (n : ℕ) → n < 2 ^ 64 → FitsKind (readingOf k n)
+made-fits K.F32 n h = omega arith
+made-fits K.F64 n h = omega arith
+made-fits K.U32 n h = omega arith
+made-fits K.U64 n h = omega arith
+
 no-upper : (n : ℕ) → n < 256 ^ 4 → (true && not (eqb (n / 2 ^ 32) 0)) ≡ false
 no-upper n h =
     let z : n / 2 ^ 32 ≡ 0 = omega arith in

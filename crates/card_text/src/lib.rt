@@ -1,6 +1,6 @@
-// The card lister's text: the header, the line of a card or of a refusal, and the lines of many cards. What each says is in specs/.
+// The card lister's text: the header, and the line of a card of either form or of a refusal. What each says is in specs/.
+use archive_card::ArchiveCard;
 use card::Card;
-use card::CardRead;
 use date::DateTime;
 use wire::Written;
 ghost use mathlib.Core.Path.{_≡_};
@@ -12,9 +12,20 @@ ghost use Rattle.wire.specs.Refusal.{first};
 ghost use Rattle.wire.specs.Writes.{Writes};
 ghost use Rattle.wire.specs.Digits.{ascii};
 ghost use Rattle.card_text.specs.Text.{numeral, Stored};
-ghost use lib.Dec.{ltb};
-ghost use Rattle.card_text.specs.Lines.{cardCount, readAt, linesOf, lines};
-ghost use Rattle.card_text.specs.Line.{plainWidth, header, timeText, cardLine, refusedLine, lineOf, tooSmall, roomRules};
+ghost use Rattle.card_text.specs.Line.{plainWidth, header, timeText, cardFields, archiveLine, refusedLine, lineOf, tooSmall, roomRules};
+
+// The forms of the card: of 17 bytes, and of 18, which says the archive.
+pub enum Form {
+    Card,
+    ArchiveCard,
+}
+
+// What a line is of.
+pub enum Entry {
+    Card(Card),
+    ArchiveCard(ArchiveCard),
+    Refused(u8),
+}
 
 // v with w digits in a base.
 fn put_number(out: &mut [u8], at: usize, base: u64, w: usize, v: u64)
@@ -64,8 +75,9 @@ fn put_time(out: &mut [u8], at: usize, time: DateTime) -> usize
     put_field(out, second, 10, 2, time.second as u64, b';')
 }
 
-fn put_card(out: &mut [u8], card: Card) -> usize
-    ensures { λ r. ⌜ Stored (now (out .entry)) 0 (cardLine card) (now (out .exit)) r ⌝ }
+// The fields that both forms have, and what ends them.
+fn put_card(out: &mut [u8; 64], card: Card, end: u8) -> usize
+    ensures { λ r. ⌜ Stored (now (out .entry)) 0 (cardFields card ++ (end ∷ [])) (now (out .exit)) r ⌝ }
 {
     let time = card.time;
     let value = card.value;
@@ -87,32 +99,54 @@ fn put_card(out: &mut [u8], card: Card) -> usize
         reading::number_of(reading::kind_of(value)) as u64,
         b';',
     );
-    put_field(out, bits, 16, 16, reading::bits(value), b'\n')
+    put_field(out, bits, 16, 16, reading::bits(value), end)
 }
 
-fn put_refused(out: &mut [u8], n: u8) -> usize
+fn put_archive_card(out: &mut [u8; 64], a: ArchiveCard) -> usize
+    ensures { λ r. ⌜ Stored (now (out .entry)) 0 (archiveLine a) (now (out .exit)) r ⌝ }
+{
+    let card = a.card;
+    let source = a.source;
+    let archive = put_card(out, card, b';');
+    put_field(
+        out,
+        archive,
+        10,
+        1,
+        archive::source_number(source) as u64,
+        b'\n',
+    )
+}
+
+fn put_refused(out: &mut [u8; 64], n: u8) -> usize
     ensures { λ r. ⌜ Stored (now (out .entry)) 0 (refusedLine n) (now (out .exit)) r ⌝ }
 {
     wire::put_all(out, 0, b"refused ");
     put_field(out, 8, 10, plain_width(n), n as u64, b'\n')
 }
 
-fn make_line(out: &mut [u8], read: CardRead) -> usize
-    ensures { λ r. ⌜ Stored (now (out .entry)) 0 (lineOf read) (now (out .exit)) r ⌝ }
+// The line over the front; the answer is its length.
+pub fn make_line(out: &mut [u8; 64], entry: Entry) -> usize
+    ensures { λ r. ⌜ Stored (now (out .entry)) 0 (lineOf «entry») (now (out .exit)) r ⌝ }
 {
-    match read {
-        CardRead::Card(card) => put_card(out, card),
-        CardRead::Refused(n) => put_refused(out, n),
+    match entry {
+        Entry::Card(card) => put_card(out, card, b'\n'),
+        Entry::ArchiveCard(a) => put_archive_card(out, a),
+        Entry::Refused(n) => put_refused(out, n),
     }
 }
 
 // How long the line is.
-fn line_length(read: CardRead) -> usize
-    ensures { λ r. ⌜ r ≡ length (lineOf read) ⌝ }
+pub fn line_length(entry: Entry) -> usize
+    ensures { λ r. ⌜ r ≡ length (lineOf «entry») ⌝ }
 {
-    match read {
-        CardRead::Card(card) => 49 + plain_width(card.channel),
-        CardRead::Refused(n) => 9 + plain_width(n),
+    match entry {
+        Entry::Card(card) => 49 + plain_width(card.channel),
+        Entry::ArchiveCard(a) => {
+            let card = a.card;
+            51 + plain_width(card.channel)
+        }
+        Entry::Refused(n) => 9 + plain_width(n),
     }
 }
 
@@ -132,100 +166,19 @@ fn put_text(text: &[u8], out: &mut [u8]) -> Written
     Written::Length(text.len())
 }
 
-pub fn put_header(out: &mut [u8]) -> Written
-    ensures { λ r. ⌜ Writes (first (roomRules header (now (out .entry)))) header (now (out .entry)) r (now (out .exit)) ⌝ }
+pub fn put_header(form: Form, out: &mut [u8]) -> Written
+    ensures { λ r. ⌜ Writes (first (roomRules (header form) (now (out .entry)))) (header form) (now (out .entry)) r (now (out .exit)) ⌝ }
 {
-    put_text(b"address;channel;time;kind;bits\n", out)
+    match form {
+        Form::Card => put_text(b"address;channel;time;kind;bits\n", out),
+        Form::ArchiveCard => put_text(b"address;channel;time;kind;bits;archive\n", out),
+    }
 }
 
-// The line of a card, or of a refusal.
-pub fn put_line(read: CardRead, out: &mut [u8]) -> Written
-    ensures { λ r. ⌜ Writes (first (roomRules (lineOf read) (now (out .entry)))) (lineOf read) (now (out .entry)) r (now (out .exit)) ⌝ }
+pub fn put_line(entry: Entry, out: &mut [u8]) -> Written
+    ensures { λ r. ⌜ Writes (first (roomRules (lineOf «entry») (now (out .entry)))) (lineOf «entry») (now (out .entry)) r (now (out .exit)) ⌝ }
 {
     let mut text = [0u8; 64];
-    let n = make_line(&mut text, read);
+    let n = make_line(&mut text, entry);
     put_text(wire::front(&text, n), out)
-}
-
-// The line from a place on, and how long it is.
-fn add_line(out: &mut [u8], at: usize, read: CardRead) -> usize
-    ensures { λ r. ⌜ (now (out .exit) ≡ sets (now (out .entry)) at (lineOf read)) × (r ≡ length (lineOf read)) ⌝ }
-{
-    let mut text = [0u8; 64];
-    let n = make_line(&mut text, read);
-    wire::put_all(out, at, wire::front(&text, n));
-    n
-}
-
-// How many cards: a short last one is a card too.
-fn card_count(cards: &[u8]) -> usize
-    ensures { λ r. ⌜ r ≡ cardCount (now (cards .entry)) ⌝ }
-{
-    if cards.len() % 17 == 0 {
-        cards.len() / 17
-    } else {
-        cards.len() / 17 + 1
-    }
-}
-
-// What stands for the card with i cards before it.
-fn read_at(cards: &[u8], i: usize) -> CardRead
-    requires { ⌜ i < cardCount (now cards) ⌝ }
-    ensures { λ r. ⌜ r ≡ readAt (now (cards .entry)) i ⌝ }
-{
-    card::read_card(wire::front(wire::rest(cards, i * 17), 17))
-}
-
-// Whether the lines of the first n cards are longer than that.
-fn are_longer(cards: &[u8], n: usize, room: usize) -> bool
-    requires { ⌜ n ≤ cardCount (now cards) ⌝ }
-    ensures { λ r. ⌜ r ≡ ltb room (length (linesOf n (now (cards .entry)))) ⌝ }
-{
-    let mut left = room;
-    let mut i = 0;
-    while i < n {
-        let k = line_length(read_at(cards, i));
-        if left < k {
-            return true;
-        }
-        left -= k;
-        i += 1;
-    }
-    false
-}
-
-// The same. A line has at most 52 bytes, so where there is that much for each card no card is read for it.
-fn lack_room(cards: &[u8], n: usize, room: usize) -> bool
-    requires { ⌜ n ≤ cardCount (now cards) ⌝ }
-    ensures { λ r. ⌜ r ≡ ltb room (length (linesOf n (now (cards .entry)))) ⌝ }
-{
-    if n <= room / 52 {
-        return false;
-    }
-    are_longer(cards, n, room)
-}
-
-// The lines of the first n cards, over the front; the answer is their length.
-fn fill(out: &mut [u8], cards: &[u8], n: usize) -> usize
-    requires { ⌜ (n ≤ cardCount (now cards)) × (length (linesOf n (now cards)) ≤ length (now out)) ⌝ }
-    ensures { λ r. ⌜ Stored (now (out .entry)) 0 (linesOf n (now (cards .entry))) (now (out .exit)) r ⌝ }
-{
-    let mut at = 0;
-    let mut i = 0;
-    while i < n {
-        at += add_line(out, at, read_at(cards, i));
-        i += 1;
-    }
-    at
-}
-
-// The lines of many cards.
-pub fn put_lines(cards: &[u8], out: &mut [u8]) -> Written
-    ensures { λ r. ⌜ Writes (first (roomRules (lines (now (cards .entry))) (now (out .entry)))) (lines (now (cards .entry))) (now (out .entry)) r (now (out .exit)) ⌝ }
-{
-    let n = card_count(cards);
-    if lack_room(cards, n, out.len()) {
-        return Written::Refused(16);
-    }
-    Written::Length(fill(out, cards, n))
 }

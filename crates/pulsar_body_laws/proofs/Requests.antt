@@ -4,7 +4,7 @@
 use mathlib.Core.Path.{_≡_, refl, sym, ap, ap₂, _∙_, subst}
 use mathlib.Core.Bool.{false, true≢false}
 use mathlib.Core.List.{List, [], _++_, append-assoc}
-use Prim.Native.Nat.{ℕ, zero, suc, _^_, _≤_, _<_}
+use Prim.Native.Nat.{ℕ, _^_, _≤_, _<_}
 use native.Mathlib.Omega.{arith}
 use lib.Dec.{T, eqb, ltb}
 use lib.ListN.{length, take, drop, length-append}
@@ -22,6 +22,10 @@ use Rattle.wire.proofs.Numbers.{length-le}
 use Rattle.wire.proofs.Refusal.{first-none, none-first, none-append, none-both}
 use Rattle.wire.proofs.Answer.{answered-none, accepted-as, answer-first}
 use Rattle.wire.proofs.Writes.{written-first}
+use Rattle.archive.specs.Archive.{typeNumber, typeFrom}
+use Rattle.archive.specs.declared.ArchiveKind.{ArchiveKind}
+use Rattle.archive.specs.declared.ArchiveKind.the-variants as A
+use Rattle.archive.proofs.Laws.{type-back, type-again}
 use Rattle.date.specs.Date.{dateBytes, dateOf}
 use Rattle.date.specs.declared.DateTime.{DateTime}
 use Rattle.date.proofs.Laws.{date-writes-again}
@@ -29,11 +33,9 @@ use Rattle.pulsar_body.specs.Fields.{maskOf, dateIn, noChannel, notOne, notDate
 use Rattle.pulsar_body.specs.Body.{badValues, bodyRules}
 use Rattle.pulsar_body.specs.declared.Values.the-variants.{Channels}
 use Rattle.pulsar_body.proofs.RoundTrip.{numbered-writing, body-back, head-within, body-again, number-kept}
-use Rattle.pulsar_request.specs.Layout.{functionFrom, functionOf, functionNumber, typeNumber, typeFrom, headBytes, archiveBytes, requestBytes, headLength, valuesAfter, valuesMask, typeOf, firstOf, lastOf, indexOf, requestOf, valuesOf}
+use Rattle.pulsar_request.specs.Layout.{functionFrom, functionOf, functionNumber, headBytes, archiveBytes, requestBytes, headLength, valuesAfter, valuesMask, typeOf, firstOf, lastOf, indexOf, requestOf, valuesOf}
 use Rattle.pulsar_request.specs.Reading.{isUnknown, badType, fieldRules, requestRules, readRequest, toldRequest}
 use Rattle.pulsar_request.specs.Writing.{fieldFaults, writingRules}
-use Rattle.pulsar_request.specs.declared.ArchiveKind.{ArchiveKind}
-use Rattle.pulsar_request.specs.declared.ArchiveKind.the-variants as A
 use Rattle.pulsar_request.specs.declared.ArchiveRequest.{ArchiveRequest}
 use Rattle.pulsar_request.specs.declared.Request.{Request}
 use Rattle.pulsar_request.specs.declared.Request.the-variants as Q
@@ -45,12 +47,6 @@ use Rattle.pulsar_request.proofs.Cases.{length-head, numbered-faults}
 use Rattle.pulsar_body_laws.specs.Sized.{SizedRequest}
 
 -- ---- what is written reads back
-
-type-back : (k : ArchiveKind) → typeFrom (typeNumber k) ≡ k
-type-back A.Hourly = refl
-type-back A.Daily = refl
-type-back A.Monthly = refl
-type-back A.HalfHourly = refl
 
 good-type : (k : ArchiveKind) → badType (typeNumber k) ≡ false
 good-type A.Hourly = refl
@@ -146,18 +142,10 @@ request-reads-back q width vs out out′ n sized w =
 
 -- ---- what is accepted is written again
 
-type-again : (t : ℕ) → badType t ≡ false → typeNumber (typeFrom t) ≡ t
-type-again t good =
+kind-again : (t : ℕ) → badType t ≡ false → typeNumber (typeFrom t) ≡ t
+kind-again t good =
     let tests = or-neither (eqb t 0) (ltb 4 t) good in
-    go t (eqb-false t 0 (tests .0)) (ltb-false 4 t (tests .1))
-  where
-    go : (t : ℕ) → (t ≡ 0 → ⊥) → t ≤ 4 → typeNumber (typeFrom t) ≡ t
-    go zero some h = absurd (some refl)
-    go (suc zero) some h = refl
-    go (suc (suc zero)) some h = refl
-    go (suc (suc (suc zero))) some h = refl
-    go (suc (suc (suc (suc zero)))) some h = refl
-    go (suc (suc (suc (suc (suc t))))) some h = absurd (omega arith)
+    type-again t (eqb-false t 0 (tests .0)) (ltb-false 4 t (tests .1))
 
 -- the request that a body says: its head is the body's front, and it is judged as the body was
 record Again (f : Function) (q : Request) (s : List ℕ) : Type 0 where
@@ -172,7 +160,7 @@ module _ (s : List ℕ) (bytes : Bytes s) where
 
   archive-again : 18 ≤ length s → NoneHolds (fieldRules F.ReadArchive s) → Again F.ReadArchive (requestOf F.ReadArchive s) s
   archive-again h n =
-      let et : typeNumber (typeFrom (typeOf s)) ≡ typeOf s = type-again (typeOf s) (n .1 .0) in
+      let et : typeNumber (typeFrom (typeOf s)) ≡ typeOf s = kind-again (typeOf s) (n .1 .0) in
       let k : le 2 (typeNumber (typeFrom (typeOf s))) ≡ field s 4 2 = ap (le 2) et ∙ number-again s 4 2 bytes in
       let m : le 4 (maskOf s) ≡ field s 0 4 = number-again s 0 4 bytes in
       let f : dateBytes (firstOf s) ≡ field s 6 6 = date-writes-again s 6 in

@@ -9,9 +9,10 @@ use Rattle.wire.specs.Numbers.{le}
 use Rattle.wire.specs.Refusal.{first}
 use Rattle.wire.proofs.Numbers.{length-le}
 use Rattle.wire.proofs.Writing.{sets-then}
+use Rattle.archive.specs.Archive.{typeNumber}
 use Rattle.date.specs.Date.{dateBytes}
 use Rattle.pulsar_body.proofs.RoundTrip.{writing-fits}
-use Rattle.pulsar_request.specs.Layout.{typeNumber, archiveBytes, headBytes, functionOf, valuesAfter, valuesMask, requestBytes}
+use Rattle.pulsar_request.specs.Layout.{archiveBytes, headBytes, functionOf, valuesAfter, valuesMask, requestBytes}
 use Rattle.pulsar_request.specs.Writing.{fieldFaults, writingRules}
 use Rattle.pulsar_request.specs.declared.ArchiveRequest.{ArchiveRequest}
 use Rattle.pulsar_request.specs.declared.Request.{Request}

@@ -7,14 +7,10 @@ use denote.Ref.{now}
 use Rattle.wire.specs.declared.Written.{Written}
 use Rattle.wire.specs.Unique.{Unique}
 use Rattle.wire.proofs.Writes.{writes-once}
-use Rattle.pulsar_request.proofs.type_number.Reads as type-number
 use Rattle.pulsar_request.proofs.read_request.Reads as read-request
 use Rattle.pulsar_request.proofs.request_function.Reads as request-function
 use Rattle.pulsar_request.proofs.request_values.Reads as request-values
 use Rattle.pulsar_request.proofs.write_request_body.Reads as write-request-body
-
-pub type-number-unique : Unique type-number.Post (λ κs r s. r)
-type-number-unique κs a r r′ s s′ e e′ = e ∙ sym e′
 
 pub read-request-unique : Unique read-request.Post (λ κs r s. r)
 read-request-unique κs a r r′ s s′ e e′ = e ∙ sym e′

@@ -6,13 +6,12 @@ use mathlib.Core.List.{List, [], _++_}
 use lib.Dec.{eqb}
 use lib.ListN.{drop}
 use Rattle.wire.specs.Numbers.{le, ofLe, field}
+use Rattle.archive.specs.Archive.{typeFrom, typeNumber}
 use Rattle.date.specs.Date.{dateBytes, dateOf}
 use Rattle.date.specs.declared.DateTime.{DateTime}
 use Rattle.pulsar_body.specs.Fields.{maskOf, dateIn}
 use Rattle.pulsar_body.specs.declared.Values.{Values}
 use Rattle.pulsar_body.specs.declared.Values.the-variants.{Nothing, Channels, Eight}
-use Rattle.pulsar_request.specs.declared.ArchiveKind.{ArchiveKind}
-use Rattle.pulsar_request.specs.declared.ArchiveKind.the-variants as A
 use Rattle.pulsar_request.specs.declared.ArchiveRequest.{ArchiveRequest}
 use Rattle.pulsar_request.specs.declared.Request.{Request}
 use Rattle.pulsar_request.specs.declared.Request.the-variants as Q
@@ -49,16 +48,6 @@ functionNumber F.ReadArchive = 0x06
 functionNumber F.ReadParameter = 0x0A
 functionNumber F.WriteParameter = 0x0B
 functionNumber F.Unknown = 0
-
--- "an archive request holds its archive kind (1 hourly, 2 daily, 3 monthly, 4 half-hourly)"
-abbrev pub typeNumber : ArchiveKind → ℕ
-typeNumber A.Hourly = 1
-typeNumber A.Daily = 2
-typeNumber A.Monthly = 3
-typeNumber A.HalfHourly = 4
-
-abbrev pub typeFrom : ℕ → ArchiveKind
-typeFrom n = cond (eqb n 1) A.Hourly (cond (eqb n 2) A.Daily (cond (eqb n 3) A.Monthly A.HalfHourly))
 
 -- ---- the bytes of a request: its head, and the value bytes
 

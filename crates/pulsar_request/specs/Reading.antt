@@ -7,11 +7,12 @@ use lib.Dec.{eqb, ltb}
 use Rattle.wire.specs.Refusal.{Rule, _when_, first}
 use Rattle.wire.specs.Answer.{answered}
 use Rattle.wire.specs.Told.{Told, accepted, refused}
+use Rattle.archive.specs.Archive.{typeNumber}
 use Rattle.date.specs.Date.{dateBytes}
 use Rattle.date.specs.declared.DateTime.{DateTime}
 use Rattle.pulsar_body.specs.Fields.{maskOf, dateIn, maskFaults, dateFaults, notOne, notDate}
 use Rattle.pulsar_body.specs.Body.{bodyRules}
-use Rattle.pulsar_request.specs.Layout.{functionFrom, functionOf, functionNumber, typeNumber, headLength, valuesAfter, typeOf, firstOf, lastOf, requestOf}
+use Rattle.pulsar_request.specs.Layout.{functionFrom, functionOf, functionNumber, headLength, valuesAfter, typeOf, firstOf, lastOf, requestOf}
 use Rattle.pulsar_request.specs.declared.Request.{Request}
 use Rattle.pulsar_request.specs.declared.Request.the-variants as Q
 use Rattle.pulsar_request.specs.declared.RequestRead.{RequestRead}

@@ -2,6 +2,7 @@
 // bytes after it; these are not copied: `request_values` hands them back as a part of the body.
 mod judge;
 
+use archive::ArchiveKind;
 use date::DateTime;
 use wire::Written;
 ghost use mathlib.Core.Path.{_≡_};
@@ -9,17 +10,9 @@ ghost use lib.Seq.{sets};
 ghost use lib.ListN.{length};
 ghost use Rattle.wire.specs.Writes.{Writes};
 ghost use Rattle.wire.specs.Refusal.{first};
-ghost use Rattle.pulsar_request.specs.Layout.{functionFrom, functionOf, functionNumber, typeFrom, typeNumber, archiveOf, requestOf, archiveBytes, headBytes, requestBytes, valuesOf};
+ghost use Rattle.pulsar_request.specs.Layout.{functionFrom, functionOf, functionNumber, archiveOf, requestOf, archiveBytes, headBytes, requestBytes, valuesOf};
 ghost use Rattle.pulsar_request.specs.Reading.{readRequest};
 ghost use Rattle.pulsar_request.specs.Writing.{writingRules};
-
-// What an archive holds.
-pub enum ArchiveKind {
-    Hourly,
-    Daily,
-    Monthly,
-    HalfHourly,
-}
 
 pub struct ArchiveRequest {
     pub mask: u32,
@@ -77,35 +70,12 @@ fn function_from(number: u8) -> Function
     }
 }
 
-fn type_from(number: u16) -> ArchiveKind
-    ensures { λ r. ⌜ r ≡ typeFrom number ⌝ }
-{
-    match number {
-        1 => ArchiveKind::Hourly,
-        2 => ArchiveKind::Daily,
-        3 => ArchiveKind::Monthly,
-        _ => ArchiveKind::HalfHourly,
-    }
-}
-
-// An archive kind's number on the wire.
-pub fn type_number(kind: ArchiveKind) -> u16
-    ensures { λ r. ⌜ r ≡ typeNumber kind ⌝ }
-{
-    match kind {
-        ArchiveKind::Hourly => 1,
-        ArchiveKind::Daily => 2,
-        ArchiveKind::Monthly => 3,
-        ArchiveKind::HalfHourly => 4,
-    }
-}
-
 fn archive_of(body: &[u8]) -> ArchiveRequest
     ensures { λ r. ⌜ r ≡ archiveOf (now (body .entry)) ⌝ }
 {
     ArchiveRequest {
         mask: wire::le32_at(body, 0),
-        kind: type_from(wire::le16_at(body, 4)),
+        kind: archive::type_from(wire::le16_at(body, 4)),
         first: date::date_at(body, 6),
         last: date::date_at(body, 12),
     }
@@ -182,7 +152,7 @@ fn put_archive(a: ArchiveRequest, out: &mut [u8])
     let first = a.first;
     let last = a.last;
     wire::put_le32(out, 0, a.mask);
-    wire::put_le16(out, 4, type_number(kind));
+    wire::put_le16(out, 4, archive::type_number(kind) as u16);
     date::put_date(out, 6, first);
     date::put_date(out, 12, last);
 }

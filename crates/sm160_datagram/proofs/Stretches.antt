@@ -8,14 +8,14 @@ use native.Mathlib.Nat.{sub-zero, zero-sub, suc-sub-suc}
 use native.Mathlib.Omega.{arith}
 use borrow.Author.Tests.{ltb-true, ltb-false, eqb-true, eqb-false, eq-eqb, ne-eqb}
 use lib.Dec.{ltb, eqb}
-use lib.ListN.{length, take, drop, getD, set, replicate, length-append, length-drop, drop-of-length-le, List·getD-append}
+use lib.ListN.{length, take, drop, getD, replicate, length-append, length-drop, drop-of-length-le, List·getD-append}
 use lib.Seq.{sets, take-nil, drop-nil, take-all}
 use Rattle.checksum.specs.Crc32.{crc32, crc32From}
 use Rattle.checksum.proofs.Crc32.{crc32-append}
 use Rattle.wire.specs.Numbers.{ofLe, field}
 use Rattle.wire.proofs.Fields.{length-field, field-take}
 use Rattle.wire.proofs.Turns.{field-of-rest}
-use Rattle.wire.proofs.Writing.{sets-then, sets-out}
+use Rattle.wire.proofs.Writing.{sets-then, over-zeros}
 use Rattle.sm160_datagram.specs.Layout.{crcDue}
 use Rattle.sm160_datagram.specs.Reading.{differ}
 
@@ -36,23 +36,6 @@ pub gathered : (held part out : List ℕ) (at : ℕ)
 gathered held part out at =
     sets-then out (drop at held) (drop (at - length held) part) (length held - at) (length-drop at held)
     ∙ ap (sets out 0) (sym (drop-two at held part))
-
-sets-cons : (x : ℕ) (xs : List ℕ) (at : ℕ) (bs : List ℕ) → sets (x ∷ xs) (suc at) bs ≡ x ∷ sets xs at bs
-sets-cons x xs at [] = refl
-sets-cons x xs at (b ∷ bs) = sets-cons x (set xs at b) (suc at) bs
-
-field-none : (at w : ℕ) → replicate w 0 ≡ field [] at w
-unfolding field
-field-none at zero = refl
-field-none at (suc w) = ap (λ (l : List ℕ). 0 ∷ l) (field-none (at + 1) w)
-
--- over w zeros: the first w bytes, and zeros past their end
-over-zeros : (w : ℕ) (l : List ℕ) → sets (replicate w 0) 0 l ≡ field l 0 w
-unfolding field
-over-zeros zero l = sets-out [] 0 l (omega arith)
-over-zeros (suc w) [] = field-none 0 (suc w)
-over-zeros (suc w) (x ∷ xs) =
-    sets-cons x (replicate w 0) 0 xs ∙ ap (λ (l : List ℕ). x ∷ l) (over-zeros w xs ∙ field-of-rest (x ∷ xs) 1 w)
 
 field-all : (s : List ℕ) (w : ℕ) → length s ≡ w → field s 0 w ≡ s
 field-all s w e = field-take s 0 w (omega arith) ∙ take-all w s (omega arith)

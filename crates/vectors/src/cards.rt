@@ -1,10 +1,20 @@
-// Acts 50 to 52: the reading card and its line.
+// Acts 50, 51, 53 to 56 and 59: the reading card in both forms, its moves, and the numbers of archives.
 use crate::say;
+use archive::Source;
+use archive::source_from;
+use archive::source_number;
+use archive::type_from;
+use archive::type_number;
+use archive_card::ArchiveCardRead;
+use archive_card::read_archive_card;
+use archive_card::to_archive_card;
+use archive_card::to_card;
+use archive_card::write_archive_card;
 use card::Card;
 use card::CardRead;
 use card::read_card;
 use card::write_card;
-use card_text::put_line;
+use card_text::Form;
 use reading::bits;
 use reading::kind_from;
 use reading::kind_of;
@@ -12,10 +22,12 @@ use reading::number_of;
 use reading::of_bits;
 use wire::Written;
 use wire::byte_at;
+use wire::le16_at;
 use wire::le32_at;
 use wire::le64_at;
 
-fn fields(c: Card) -> bool {
+// The archive kind is the last word, which a card of 17 bytes has not.
+fn fields(form: Form, c: Card, source: Source) -> bool {
     let t = c.time;
     let v = c.value;
     let words = [
@@ -30,8 +42,12 @@ fn fields(c: Card) -> bool {
         t.second as u64,
         number_of(kind_of(v)) as u64,
         bits(v),
+        source_number(source) as u64,
     ];
-    say::numbers(&words)
+    match form {
+        Form::Card => say::numbers(&words[..11]),
+        Form::ArchiveCard => say::numbers(&words),
+    }
 }
 
 fn card_from(numbers: &[u8]) -> Card {
@@ -45,29 +61,45 @@ fn card_from(numbers: &[u8]) -> Card {
 
 fn read(bytes: &[u8]) -> bool {
     match read_card(bytes) {
-        CardRead::Card(c) => fields(c),
+        CardRead::Card(c) => fields(Form::Card, c, Source::Current),
         CardRead::Refused(n) => say::refused(n),
     }
 }
 
-// The line of a refusal and, for 0, of a card.
-fn write_line(n: u8, card: &[u8], out: &mut [u8]) -> Written {
-    if n == 0 {
-        put_line(read_card(card), out)
-    } else {
-        put_line(CardRead::Refused(n), out)
+fn read_archive(bytes: &[u8]) -> bool {
+    match read_archive_card(bytes) {
+        ArchiveCardRead::Card(a) => {
+            let c = a.card;
+            let source = a.source;
+            fields(Form::ArchiveCard, c, source)
+        }
+        ArchiveCardRead::Refused(n) => say::refused(n),
     }
+}
+
+fn write(act: u8, numbers: &[u8], bytes: &[u8], out: &mut [u8]) -> Written {
+    match act {
+        51 => write_card(card_from(numbers), out),
+        54 => write_archive_card(card_from(numbers), byte_at(numbers, 40), out),
+        55 => to_archive_card(bytes, out),
+        _ => to_card(bytes, out),
+    }
+}
+
+// Act 59: the number of a source and that of an archive kind, there and back.
+fn archive_numbers(source: u8, kind: u16) -> bool {
+    let s = source_number(source_from(source));
+    let k = type_number(type_from(kind));
+    say::numbers(&[0, s as u64, k as u64])
 }
 
 pub fn answer(act: u8, numbers: &[u8], bytes: &[u8], out: &mut [u8]) -> bool {
     match act {
         50 => read(bytes),
-        51 => {
-            let w = write_card(card_from(numbers), out);
-            say::written(w, out)
-        }
+        53 => read_archive(bytes),
+        59 => archive_numbers(byte_at(numbers, 0), le16_at(numbers, 8)),
         _ => {
-            let w = write_line(byte_at(numbers, 0), bytes, out);
+            let w = write(act, numbers, bytes, out);
             say::written(w, out)
         }
     }

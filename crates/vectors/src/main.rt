@@ -7,6 +7,7 @@ mod envelope;
 mod files;
 mod frames;
 mod ground;
+mod listings;
 mod readings;
 mod receiver;
 mod replies;
@@ -50,7 +51,8 @@ fn answer(act: u8, numbers: &[u8], bytes: &[u8], out: &mut [u8]) -> bool {
         4..=8 => readings::answer(act, numbers, bytes),
         10..=23 => pulsar(act, numbers, bytes, out),
         30..=44 => controller(act, numbers, bytes, out),
-        50..=52 => cards::answer(act, numbers, bytes, out),
+        50..=51 | 53..=56 | 59 => cards::answer(act, numbers, bytes, out),
+        52 | 57..=58 => listings::answer(act, numbers, bytes, out),
         60 => clocks::answer(numbers),
         71..=80 => datagrams::answer(act, numbers, bytes, out),
         _ => say::unknown(act),

@@ -1,13 +1,13 @@
 // Acts 20 and 22: request bodies.
 use crate::say;
 use crate::size_at;
+use archive::type_from;
+use archive::type_number;
 use date::DateTime;
 use date::date_at;
-use pulsar_request::ArchiveKind;
 use pulsar_request::ArchiveRequest;
 use pulsar_request::Request;
 use pulsar_request::RequestRead;
-use pulsar_request::type_number;
 use wire::byte_at;
 use wire::le16_at;
 use wire::le32_at;
@@ -26,7 +26,7 @@ fn clock(function: u64, d: DateTime) -> bool {
     say::numbers(&words)
 }
 
-fn archive(function: u64, a: ArchiveRequest) -> bool {
+fn archive_request(function: u64, a: ArchiveRequest) -> bool {
     let kind = a.kind;
     let f = a.first;
     let l = a.last;
@@ -58,7 +58,7 @@ fn request(r: Request, values: &[u8]) -> bool {
         Request::WriteChannels(mask) => say::line(&[0, function, mask as u64], values),
         Request::ReadClock => say::line(&[0, function], values),
         Request::SetClock(d) => clock(function, d),
-        Request::ReadArchive(a) => archive(function, a),
+        Request::ReadArchive(a) => archive_request(function, a),
         Request::ReadParameter(index) => say::line(&[0, function, index as u64], values),
         Request::WriteParameter(index) => say::line(&[0, function, index as u64], values),
     }
@@ -71,19 +71,10 @@ fn read(numbers: &[u8], body: &[u8]) -> bool {
     }
 }
 
-fn kind_from(number: u8) -> ArchiveKind {
-    match number {
-        1 => ArchiveKind::Hourly,
-        2 => ArchiveKind::Daily,
-        3 => ArchiveKind::Monthly,
-        _ => ArchiveKind::HalfHourly,
-    }
-}
-
 fn archive_from(numbers: &[u8]) -> ArchiveRequest {
     ArchiveRequest {
         mask: le32_at(numbers, 16),
-        kind: kind_from(byte_at(numbers, 24)),
+        kind: type_from(le16_at(numbers, 24)),
         first: date_at(numbers, 40),
         last: date_at(numbers, 48),
     }

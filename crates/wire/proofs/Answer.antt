@@ -29,7 +29,8 @@ module _ {A : Type 0} (refuse : ℕ → A) (accept : A) where
     accepted-as zero a e z = (refl, e)
     accepted-as (suc n) a e z = absurd (let k : suc n ≡ 0 = sym (says (suc n)) ∙ ap told e ∙ z in omega arith)
 
-    told-number : told accept ≡ 0 → (n : ℕ) → n ≡ told (answered refuse accept n)
+    -- the number that is told is the first rule's
+    pub told-number : told accept ≡ 0 → (n : ℕ) → n ≡ told (answered refuse accept n)
     told-number z zero = sym z
     told-number z (suc n) = sym (says (suc n))
 

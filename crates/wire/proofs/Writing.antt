@@ -2,16 +2,17 @@
 -- Assumes nothing.
 use mathlib.Core.Path.{_≡_, refl, sym, ap, _∙_}
 use mathlib.Core.List.{List, [], _∷_, _++_}
-use Prim.Native.Nat.{ℕ, suc, _+_, _-_, _≤_, _<_}
+use Prim.Native.Nat.{ℕ, zero, suc, _+_, _-_, _≤_, _<_}
 use native.Mathlib.Nat.{min-le-left, add-zero, add-suc, suc-add, zero-add}
 use native.Mathlib.Numerals.{add-one}
 use native.Mathlib.Omega.{arith}
 use mathlib.Core.Bool.{Bool, true, false}
 use lib.Dec.{ltb}
 use borrow.Author.Tests.{ltb-true, ltb-false}
-use lib.ListN.{length, take, drop, getD, set, length-set, length-take}
+use lib.ListN.{length, take, drop, getD, set, replicate, length-set, length-take}
 use lib.Seq.{sets, sets-eq, set-out, take-nil, take-suc, take-all, length-take-le, take-append-seam}
-use Rattle.wire.specs.Numbers.{over}
+use Rattle.wire.specs.Numbers.{field, over}
+use Rattle.wire.proofs.Turns.{field-of-rest}
 
 -- bs, and after them cs
 pub sets-append : (out : List ℕ) (at : ℕ) (bs cs : List ℕ) → sets (sets out at bs) (at + length bs) cs ≡ sets out at (bs ++ cs)
@@ -78,3 +79,20 @@ sets-part out at src part n e en = ap (sets out at) (e ∙ ap (λ (k : ℕ). tak
 
 pub part-fits : (src part : List ℕ) (n m : ℕ) → part ≡ take n src → n ≡ m → length part ≤ m
 part-fits src part n m e en = omega (arith, ap length e, length-take n src, min-le-left n (length src))
+
+sets-cons : (x : ℕ) (xs : List ℕ) (at : ℕ) (bs : List ℕ) → sets (x ∷ xs) (suc at) bs ≡ x ∷ sets xs at bs
+sets-cons x xs at [] = refl
+sets-cons x xs at (b ∷ bs) = sets-cons x (set xs at b) (suc at) bs
+
+field-none : (at w : ℕ) → replicate w 0 ≡ field [] at w
+unfolding field
+field-none at zero = refl
+field-none at (suc w) = ap (λ (l : List ℕ). 0 ∷ l) (field-none (at + 1) w)
+
+-- over w zeros: the first w bytes, and zeros past their end
+pub over-zeros : (w : ℕ) (l : List ℕ) → sets (replicate w 0) 0 l ≡ field l 0 w
+unfolding field
+over-zeros zero l = sets-out [] 0 l (omega arith)
+over-zeros (suc w) [] = field-none 0 (suc w)
+over-zeros (suc w) (x ∷ xs) =
+    sets-cons x (replicate w 0) 0 xs ∙ ap (λ (l : List ℕ). x ∷ l) (over-zeros w xs ∙ field-of-rest (x ∷ xs) 1 w)

@@ -1,20 +1,37 @@
 -- `card::read_card` meets its contract.
 -- Assumes nothing.
-use mathlib.Core.Path.{ap}
+use mathlib.Core.Path.{ap, _∙_}
+use native.Mathlib.Omega.{arith}
+use Rattle.wire.proofs.Refusal.{hit}
 use Rattle.wire.proofs.Answer.{answers-refused, answers-accepted}
+use Rattle.card.specs.Layout.{cardFrom, cardForm}
 use Rattle.card.specs.Reading.{readCard}
 use Rattle.card.specs.declared.CardRead.the-variants as R
+use Rattle.card.proofs.Widths.{found-fields, form-judged}
 use borrow.Author.Needs.{needs}
 use Rattle.card.proofs.read_card.Statement.{statement}
 use Rattle.card.proofs.read_card.Tie as tie
 
 returns : tie.Need-returns
 unfolding readCard
-returns c = answers-refused R.Refused _ _ _ (c .before .judge .ensures) (c .if1 .taken)
+returns c = answers-refused R.Refused _ 50 _ (hit _ _ 50 _ (c .before .other-length .ensures) (c .if1 .taken)) (λ e. omega arith)
 
 returns-2 : tie.Need-returns-2
 unfolding readCard
-returns-2 c = answers-accepted R.Refused _ _ _ _ (c .before .before .judge .ensures) (c .before .if1 .left) (ap R.Card (c .card-of .ensures))
+returns-2 c =
+    let s = c .before .before .before .before .before .before .before .before .args .bytes .now in
+    answers-refused R.Refused _ _ _ (form-judged cardForm s _ _ _ _ (c .before .before .before .before .before .before .other-length .ensures) (c .before .before .before .before .before .if1 .left) (c .before .before .before .before .first-bytes .ensures) (c .before .before .fields-of .ensures) (c .before .later-fault .ensures)) (c .if2 .taken)
+
+returns-3 : tie.Need-returns-3
+unfolding readCard
+returns-3 c =
+    let judged = c .before .before in
+    let read = judged .before .before .before in
+    let s = c .before .before .before .before .before .before .before .before .before .args .bytes .now in
+    answers-accepted R.Refused _ _ _ _ (form-judged cardForm s _ _ _ _ (c .before .before .before .before .before .before .before .other-length .ensures) (c .before .before .before .before .before .before .if1 .left) (read .first-bytes .ensures) (judged .before .fields-of .ensures) (judged .later-fault .ensures)) (c .before .if2 .left)
+    (ap R.Card (c .card-from .ensures ∙ ap cardFrom (found-fields s _ _ (read .first-bytes .ensures) (judged .before .fields-of .ensures))))
 
 pub read-card-spec : {M : Type 1} → statement M
-read-card-spec = tie.close (tie.spec (λ c κs. search needs) returns (λ c κs. search needs) returns-2)
+read-card-spec =
+    tie.close
+    (tie.spec (λ c κs. search needs) returns (λ c κs. search needs) (λ c κs. search needs) (λ c κs. search needs) returns-2 (λ c κs. search needs) returns-3)

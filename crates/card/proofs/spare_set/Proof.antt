@@ -4,7 +4,7 @@ use mathlib.Core.Path.{ap}
 use mathlib.Core.Bool.{not}
 use Prim.Native.Nat.{ℕ}
 use lib.Dec.{eqb}
-use Rattle.card.proofs.Fields.{spare-whole}
+use Rattle.card.proofs.Widths.{spare-whole}
 use borrow.Author.Needs.{needs}
 use Rattle.card.proofs.spare_set.Statement.{statement}
 use Rattle.card.proofs.spare_set.Tie as tie

@@ -1,8 +1,0 @@
--- `card::value_kind` meets its contract.
--- Assumes nothing.
-use borrow.Author.Needs.{needs}
-use Rattle.card.proofs.value_kind.Statement.{statement}
-use Rattle.card.proofs.value_kind.Tie as tie
-
-pub value-kind-spec : {M : Type 1} → statement M
-value-kind-spec = tie.close (tie.spec (λ c κs. search needs) (λ c κs. search needs) (λ c. cc))
