@@ -17,6 +17,8 @@ struct date { uint8_t year, month, day, hour, minute, second; };
 struct difference { uint8_t refused; int64_t seconds; };
 struct fields { uint8_t refused, channel, year, month, day, hour, minute, second, kind; uint32_t address; uint64_t bits; };
 struct archive_fields { struct fields card; uint8_t archive; };
+/* of a course of calls on a table of turns: what the answers came to, and how many were no refusals */
+struct told { uint64_t sum, good; };
 
 uint16_t rattle_checksum(const uint8_t *bytes, size_t n);
 uint16_t plain_checksum(const uint8_t *bytes, size_t n);
@@ -66,3 +68,5 @@ uint8_t rattle_to_card(const uint8_t *bytes, size_t n, uint8_t *out, size_t room
 uint8_t plain_to_card(const uint8_t *bytes, size_t n, uint8_t *out, size_t room);
 struct difference rattle_clock_difference(struct date meter, struct date cabinet);
 struct difference plain_clock_difference(struct date meter, struct date cabinet);
+struct told rattle_course(const uint8_t *calls, size_t n);
+struct told plain_course(const uint8_t *calls, size_t n);

@@ -87,6 +87,58 @@ static struct date make_date(void)
     return d;
 }
 
+enum { ADD = 1, REMOVE, MARK, CLEAR, TURN, PUT, PUT_DUE, LAST, CALLS = 512 };
+
+/* One call of a course on a table of turns. */
+static uint8_t *put_call(uint8_t *p, uint8_t call, uint8_t slot, uint8_t upper, uint8_t lower)
+{
+    p[0] = call, p[1] = slot, p[2] = upper, p[3] = lower;
+    return p + 4;
+}
+
+/* What makes an address end in that byte. */
+static uint8_t lower_for(uint8_t upper, uint8_t ending) { return ending - upper * 396825u; }
+
+/* Calls with few addresses, so that some are present, and most slots near or in their range. A spoilt course also changes the table by itself. In the end
+   every meter is marked and asked, and so told. */
+static void make_course(uint8_t *p)
+{
+    uint8_t *end = p + 4 * CALLS;
+    bool filling = chance(4), spoilt = !chance(3);
+    while (p < end - 4 * 96) {
+        uint8_t call = chance(2) ? MARK + chance(3) : chance(6) ? (filling ? ADD : REMOVE) : (filling ? REMOVE : ADD);
+        uint8_t slot = chance(9) ? chance(34) : chance(256), upper = chance(9) ? chance(12) : 250 + chance(4), lower = upper > 250 ? 97 + chance(6) : chance(6);
+        if (chance(2)) lower = lower_for(upper, lower);
+        if (spoilt && !chance(40)) call = PUT + chance(3), slot = chance(34);
+        p = put_call(p, call, slot, upper, lower);
+    }
+    for (int i = 0; i < 32; i++) p = put_call(p, TURN, 0, 0, 0);
+    for (int i = 0; i < 32; i++) p = put_call(p, MARK, 1 + i, 0, 0);
+    for (int i = 0; i < 32; i++) p = put_call(p, TURN, 0, 0, 0);
+}
+
+/* A table of meters whose addresses are one block, are random, or end alike, by the work's name; then n times what is counted. */
+static void make_work(uint8_t *p, const char *work, size_t n)
+{
+    bool block = !strncmp(work, "block", 5), alike = !strncmp(work, "alike", 5);
+    const char *what = strchr(work, '-') + 1;
+    bool all = !strcmp(what, "due"), one = !strcmp(what, "one"), add = !strcmp(what, "add");
+    uint8_t upper = 0, lower = 0;
+    memset(p, 0, 4 * CALLS);
+    for (int i = 0; i < 32; i++) {
+        upper = block ? 100 : 3 + 7 * i, lower = block ? 100u + i : alike ? lower_for(upper, 77) : chance(256);
+        if (i < 31 || !add) p = put_call(p, ADD, 0, upper, lower);
+        if (all || (one && i == 16)) p = put_call(p, MARK, 1 + i, 0, 0);
+    }
+    if (one) p = put_call(put_call(p, TURN, 0, 0, 0), MARK, 17, 0, 0);
+    for (size_t i = 0; i < 192; i++) {
+        bool made = i < n;
+        p = put_call(p, made ? (add ? ADD : TURN) : 0, 0, upper, lower);
+        if (all || one) p = put_call(p, made ? MARK : 0, one ? 17 : 1 + i % 32, 0, 0);
+        if (add) p = put_call(p, made ? REMOVE : 0, 32, 0, 0);
+    }
+}
+
 static void damage(uint8_t *p, size_t n)
 {
     size_t at = chance(n);
@@ -239,10 +291,17 @@ static void check_clock(struct date meter, struct date cabinet, unsigned *good)
     *good += !a.refused;
 }
 
+static void check_course(const uint8_t *calls, unsigned *good)
+{
+    struct told a = rattle_course(calls, 4 * CALLS), b = plain_course(calls, 4 * CALLS);
+    if (a.sum != b.sum || a.good != b.good) differ("turns");
+    *good += a.good;
+}
+
 static int check(void)
 {
     static uint8_t p[10000], file[1000];
-    unsigned frames = 0, lines = 0, texts = 0, made = 0, received = 0, whole = 0, datagrams = 0, files = 0, put = 0, sent = 0, clocks = 0, read = 0, moved = 0, written = 0;
+    unsigned frames = 0, lines = 0, texts = 0, made = 0, received = 0, whole = 0, datagrams = 0, files = 0, put = 0, sent = 0, clocks = 0, read = 0, moved = 0, written = 0, called = 0;
     for (size_t n = 0; n < 600; n++) {
         random_bytes(p, n);
         if (rattle_checksum(p, n) != plain_checksum(p, n)) differ("checksum");
@@ -346,9 +405,13 @@ static int check(void)
         }
         check_write_card(c, 17 + chance(2), &written);
     }
-    fprintf(stderr, "the same answers: 600 checksums and CRC-32s, as many in two stretches, 60,000 frames at the meter and at the master (%u accepted), 60,000 RTU lines (%u), 60,000 ASCII lines (%u) and 20,000 written (%u), 40,000 parts (%u, %u of them the last), 100,000 datagrams (%u, %u of them for a file) and 60,000 written (%u), 100,000 parts sent (%u), 60,000 clocks (%u), 80,000 cards read in both forms (%u) and moved both ways (%u), 60,000 written in both (%u)\n",
-            frames, lines, texts, made, received, whole, datagrams, files, put, sent, clocks, read, moved, written);
-    if (frames < 35000 || lines < 19000 || texts < 10000 || made < 10000 || received < 1000 || whole < 1000 || datagrams < 40000 || files < 20000 || put < 20000 || sent < 20000 || clocks < 20000 || read < 40000 || moved < 30000 || written < 30000) {
+    for (int i = 0; i < 2000; i++) {
+        make_course(p);
+        check_course(p, &called);
+    }
+    fprintf(stderr, "the same answers: 600 checksums and CRC-32s, as many in two stretches, 60,000 frames at the meter and at the master (%u accepted), 60,000 RTU lines (%u), 60,000 ASCII lines (%u) and 20,000 written (%u), 40,000 parts (%u, %u of them the last), 100,000 datagrams (%u, %u of them for a file) and 60,000 written (%u), 100,000 parts sent (%u), 60,000 clocks (%u), 80,000 cards read in both forms (%u) and moved both ways (%u), 60,000 written in both (%u), 1,024,000 calls on a table of turns (%u)\n",
+            frames, lines, texts, made, received, whole, datagrams, files, put, sent, clocks, read, moved, written, called);
+    if (frames < 35000 || lines < 19000 || texts < 10000 || made < 10000 || received < 1000 || whole < 1000 || datagrams < 40000 || files < 20000 || put < 20000 || sent < 20000 || clocks < 20000 || read < 40000 || moved < 30000 || written < 30000 || called < 300000) {
         fprintf(stderr, "too few inputs are accepted\n");
         return 1;
     }
@@ -451,6 +514,9 @@ int main(int argc, char **argv)
         for (int i = 0; i < 401; i++) dates[i] = make_date();
         for (size_t r = 0; r < reps; r++)
             for (size_t i = 0; i < n; i++) sum += BOTH(clock_difference, dates[i], dates[i + 1]).seconds;
+    } else if (strchr(work, '-')) {
+        make_work(p, work, n);
+        while (reps--) sum += BOTH(course, p, 4 * CALLS).sum;
     } else if (!strcmp(work, "read18")) {
         for (int i = 0; i < 400; i++) plain_write_archive_card(make_fields(), i % 5, p + 18 * i, 18);
         for (size_t r = 0; r < reps; r++)

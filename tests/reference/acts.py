@@ -12,10 +12,12 @@ import pulsar_line
 import read_file
 import readings
 import sm160
+import turns
 from cases.making import changed
 from crc import crc16, crc32
 from dates import NO_DATE, is_date
 from digits import digit, digit_of
+from encoding import CALL, table_bytes, table_from
 from lrc import lrc, summed
 
 
@@ -254,6 +256,39 @@ def clock_difference(numbers, strings):
     return told(refusal) if refusal else told(0, int(seconds < 0), abs(seconds))
 
 
+# The calls on a table of turns, by act.
+TURNS = {82: turns.add, 83: turns.remove, 84: turns.mark, 85: turns.clear, 86: turns.turn}
+
+
+def called(act, table, *argument):
+    """The number, slot and address that a call answers, 0 for what it does not, and the table after it."""
+    refusal, values, after = TURNS[act](table, *argument)
+    return [refusal, *(*values, 0, 0)[:2]], after
+
+
+def of_table(act):
+    def answer(numbers, strings):
+        last, *argument = numbers
+        words, after = called(act, table_from(strings[1], last), *argument)
+        return words + [after[2], table_bytes(after)]
+    return answer
+
+
+def new_table(numbers, strings):
+    table = turns.new()
+    return told(0, table[2], table_bytes(table))
+
+
+def course(numbers, strings):
+    """Calls from a new table on, each on what the one before it left: the last table, and the answers of all."""
+    calls, output = strings
+    table, answers = turns.new(), b""
+    for act, slot, address in CALL.iter_unpack(calls):
+        words, table = called(act, table, *{82: [address], 86: []}.get(act, [slot]))
+        answers += CALL.pack(*words)
+    return told(0, table[2], changed(output, 0, table_bytes(table) + answers))
+
+
 # act: name, the refusal numbers that it can give, its answer
 ACTS = {
     1: ("checksum_from", [], checksum_from),
@@ -311,4 +346,11 @@ ACTS = {
     78: ("write 87", [16], writer(of_two(read_file.write_reply))),
     79: ("long texts", [36, 16], long_text),
     80: ("put_opening, _closing", [], put_ends),
+    81: ("new", [], new_table),
+    82: ("add", [20, 100, 103, 104], of_table(82)),
+    83: ("remove", [20, 101, 102], of_table(83)),
+    84: ("mark", [20, 101, 102], of_table(84)),
+    85: ("clear", [20, 101, 102], of_table(85)),
+    86: ("turn", [20, 105], of_table(86)),
+    87: ("course of turns", [], course),
 }

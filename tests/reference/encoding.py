@@ -1,4 +1,10 @@
 """A case as bytes and an answer as a line, by CASES.md."""
+import struct
+
+# A slot of a table of turns: address, due.
+SLOT = struct.Struct("<I?")
+# A call of a course: its act, slot and address; and its answer: number, slot and address.
+CALL = struct.Struct("<BQI")
 
 
 def le(number, width):
@@ -17,3 +23,14 @@ def answer_line(words):
         words = words + [b""]
     *numbers, last = words
     return " ".join([str(number) for number in numbers] + [last.hex().upper() or "-"]) + "\n"
+
+
+def table_bytes(table):
+    """The slots of a table of turns; its last asked slot is a number of the case."""
+    addresses, due, _ = table
+    return b"".join(SLOT.pack(*slot) for slot in zip(addresses, due))
+
+
+def table_from(data, last):
+    addresses, due = zip(*SLOT.iter_unpack(data))
+    return addresses, due, last

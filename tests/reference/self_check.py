@@ -4,6 +4,7 @@ import datetime
 import itertools
 import random
 import zlib
+from collections import Counter
 
 import card
 import clock
@@ -15,6 +16,7 @@ import pulsar_line
 import read_file
 import readings
 import sm160
+import turns
 from crc import crc16, crc32, low_byte_first
 from dates import is_date
 from digits import digit, digit_of
@@ -354,6 +356,46 @@ def collector():
     same("the 256th byte is dropped", pulsar_line.silence(state), (0, (bytes(range(255)), 0, (bytes(255), 0))))
 
 
+def tables():
+    """02, W-213: 20 told by counting, the slot of a turn by how far each due one lies behind the last asked, a course by a dictionary."""
+    rng = random.Random(213)
+    for _ in range(2000):
+        pool, one_in = rng.choice((([1, 2, 257, 99_999_999, 100_000_000], 16), (range(1, 300), 4), (range(1, 10 ** 8), 1)))
+        addresses = tuple(0 if rng.randrange(one_in) else rng.choice(pool) for _ in range(32))
+        due = tuple(rng.randrange(4) == 0 and (address > 0 or rng.randrange(50) == 0) for address in addresses)
+        last = rng.choice((0, 1, 32, 33, rng.randint(1, 32)))
+        table = addresses, due, last
+        counts = Counter(address for address in addresses if address)
+        fit = last in range(1, 33) and max(addresses) < 10 ** 8 and len(counts) == sum(counts.values()) and (0, True) not in zip(addresses, due)
+        slots = sorted((slot for slot in range(1, 33) if due[slot - 1]), key=lambda slot: (slot - last - 1) % 32)
+        refusal, values, after = turns.turn(table)
+        same("20", refusal == 20, not fit)
+        if fit:
+            same("a turn", (refusal, values), (0, (slots[0], addresses[slots[0] - 1])) if slots else (105, ()))
+            same("the table after it", after, (addresses, tuple(slot in slots[1:] for slot in range(1, 33)), slots[0]) if slots else table)
+    held, waiting, last, table = {}, set(), 32, turns.new()
+    for _ in range(5000):
+        name, slot, address = rng.choice(("add", "add", "add", "add", "remove", "mark", "mark", "clear", "turn", "turn")), rng.randrange(34), rng.randrange(60)
+        if name == "add":
+            empty = sorted(set(range(1, 33)) - set(held))
+            due = 100 if address == 0 else 103 if address in held.values() else 0 if empty else 104
+            if due == 0:
+                held[empty[0]] = address
+        elif name == "turn":
+            due = 0 if waiting else 105
+            if due == 0:
+                last = min(waiting, key=lambda slot: slot if slot > last else slot + 32)
+                waiting -= {last}
+        else:
+            due = 101 if slot in (0, 33) else 0 if slot in held else 102
+            if due == 0:
+                waiting = waiting | {slot} if name == "mark" else waiting - {slot}
+            if due == 0 and name == "remove":
+                del held[slot]
+        refusal, _, table = getattr(turns, name)(table, *([address] if name == "add" else [] if name == "turn" else [slot]))
+        same(f"{name} in a course", (refusal, table), (due, (tuple(held.get(k, 0) for k in range(1, 33)), tuple(k in waiting for k in range(1, 33)), last)))
+
+
 def dates():
     """Every year, month and day within the ranges and just beyond, beside python's calendar."""
     for year, month, day in itertools.product(range(101), range(14), range(33)):
@@ -377,7 +419,7 @@ def seconds():
 def check():
     for one in (checksums, crc32s, printed_frames, printed_sessions, counted_from_start, printed_datagrams, datagram_edges, texts, sent_and_received,
                 modbus_examples, functions_of_003, ascii_lengths, edges, on_its_way, agreed_part, lister, archive_cards, both_forms,
-                collector, dates, seconds):
+                collector, tables, dates, seconds):
         one()
 
 

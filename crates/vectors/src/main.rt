@@ -13,6 +13,7 @@ mod receiver;
 mod replies;
 mod requests;
 mod say;
+mod tables;
 
 use wire::byte_at;
 use wire::front;
@@ -55,6 +56,7 @@ fn answer(act: u8, numbers: &[u8], bytes: &[u8], out: &mut [u8]) -> bool {
         52 | 57..=58 => listings::answer(act, numbers, bytes, out),
         60 => clocks::answer(numbers),
         71..=80 => datagrams::answer(act, numbers, bytes, out),
+        81..=87 => tables::answer(act, numbers, bytes, out),
         _ => say::unknown(act),
     }
 }

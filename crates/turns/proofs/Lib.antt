@@ -1,0 +1,5 @@
+pub mod Round
+pub mod Fitness
+pub mod Answers
+pub mod Order
+pub mod Unique

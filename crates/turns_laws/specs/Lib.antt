@@ -1,0 +1,5 @@
+pub mod Fit
+pub mod Course
+pub mod Fairness
+pub mod Held
+pub mod Needed
