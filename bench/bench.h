@@ -13,6 +13,16 @@ struct datagram { uint8_t refused, kind, option, content; size_t options, data; 
 struct request { uint8_t refused, letter; uint64_t offset, size; size_t name; };
 struct reply { uint8_t refused, letter; uint32_t status; size_t message; };
 struct sent { uint8_t refused; size_t length, next; };
+/* n: how many groups a request has; how many bytes were written */
+struct counted { uint8_t refused; size_t n; };
+/* a group that is asked for, which the core has as [u16; 3] */
+struct ask { uint16_t file, record, length; };
+struct asked { bool there; uint16_t file, record, length; };
+/* count, length: both length bytes where there are no data */
+struct groups { uint8_t refused; bool no_data; uint8_t count, length; size_t n; };
+/* first: the first byte, 0 where there is none */
+struct registers { uint8_t first; size_t length; };
+struct descriptor { uint8_t refused, contents; uint16_t length, kind, records, record_length, next; uint32_t total; };
 struct date { uint8_t year, month, day, hour, minute, second; };
 struct difference { uint8_t refused; int64_t seconds; };
 struct fields { uint8_t refused, channel, year, month, day, hour, minute, second, kind; uint32_t address; uint64_t bits; };
@@ -54,6 +64,22 @@ uint8_t rattle_write_reply(uint32_t status, const uint8_t *message, size_t m, co
 uint8_t plain_write_reply(uint32_t status, const uint8_t *message, size_t m, const uint8_t *content, size_t n, uint8_t *out, size_t room);
 struct sent rattle_send(const uint8_t *file, size_t n, uint16_t session, size_t largest, size_t place, uint8_t *out, size_t room);
 struct sent plain_send(const uint8_t *file, size_t n, uint16_t session, size_t largest, size_t place, uint8_t *out, size_t room);
+struct counted rattle_adi_read_request(const uint8_t *pdu, size_t n);
+struct counted plain_adi_read_request(const uint8_t *pdu, size_t n);
+struct asked rattle_adi_asked_at(const uint8_t *pdu, size_t n, size_t place);
+struct asked plain_adi_asked_at(const uint8_t *pdu, size_t n, size_t place);
+struct counted rattle_adi_write_request(const struct ask *groups, size_t n, uint8_t *out, size_t room);
+struct counted plain_adi_write_request(const struct ask *groups, size_t n, uint8_t *out, size_t room);
+struct groups rattle_adi_read_reply(const uint8_t *pdu, size_t n);
+struct groups plain_adi_read_reply(const uint8_t *pdu, size_t n);
+struct registers rattle_adi_registers_at(const uint8_t *pdu, size_t n, size_t place);
+struct registers plain_adi_registers_at(const uint8_t *pdu, size_t n, size_t place);
+struct counted rattle_adi_write_reply(const uint8_t *lengths, size_t groups, const uint8_t *registers, size_t n, uint8_t *out, size_t room);
+struct counted plain_adi_write_reply(const uint8_t *lengths, size_t groups, const uint8_t *registers, size_t n, uint8_t *out, size_t room);
+struct counted rattle_adi_write_no_data(uint8_t count, uint8_t length, uint8_t *out, size_t room);
+struct counted plain_adi_write_no_data(uint8_t count, uint8_t length, uint8_t *out, size_t room);
+struct descriptor rattle_adi_read_descriptor(const uint8_t *registers, size_t n);
+struct descriptor plain_adi_read_descriptor(const uint8_t *registers, size_t n);
 struct fields rattle_read_card(const uint8_t *bytes, size_t n);
 struct fields plain_read_card(const uint8_t *bytes, size_t n);
 uint8_t rattle_write_card(struct fields card, uint8_t *out, size_t room);

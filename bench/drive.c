@@ -145,6 +145,93 @@ static void damage(uint8_t *p, size_t n)
     p[at] ^= 1 << chance(8);
 }
 
+static void put_be16(uint8_t *p, uint16_t v) { p[0] = v >> 8, p[1] = v; }
+
+/* A group that may be asked for, now and then at the ends of what may be. */
+static struct ask make_ask(void)
+{
+    struct ask a = {1, 9999, 1};
+    if (chance(9)) a.file = 1 + chance(65535);
+    if (chance(9)) a.record = chance(10000);
+    if (chance(9)) a.length = 1 + chance(65535);
+    return a;
+}
+
+/* One of its numbers just in or just out of what may be. */
+static struct ask edge_ask(struct ask a)
+{
+    switch (chance(3)) {
+    case 0: a.file = chance(2); break;
+    case 1: a.record = 9999 + chance(2); break;
+    default: a.length = chance(2);
+    }
+    return a;
+}
+
+/* Requests and replies of ADI with any groups, more than there may be too; answers how many bytes. */
+static size_t put_asks(uint8_t *p, const struct ask *groups, size_t n)
+{
+    p[0] = 0x14, p[1] = 7 * n;
+    for (size_t i = 0; i < n; i++) {
+        uint8_t *g = p + 2 + 7 * i;
+        g[0] = 6, put_be16(g + 1, groups[i].file), put_be16(g + 3, groups[i].record), put_be16(g + 5, groups[i].length);
+    }
+    return 7 * n + 2;
+}
+
+static size_t put_groups(uint8_t *p, const uint8_t *lengths, size_t n)
+{
+    size_t at = 2;
+    for (size_t i = 0; i < n; i++) {
+        p[at] = lengths[i], p[at + 1] = 6;
+        random_bytes(p + at + 2, lengths[i]);
+        at += lengths[i] + 2;
+    }
+    p[0] = 0x14, p[1] = at - 2;
+    return at;
+}
+
+/* Good lengths of so many groups of a reply, or of as many as have room in it; answers how many, and in n how many register bytes they have. */
+static size_t make_lengths(uint8_t *lengths, size_t groups, size_t largest, size_t *n)
+{
+    size_t i = 0;
+    for (*n = 0; i < groups; i++) {
+        size_t length = 2 + 2 * chance(largest / 2);
+        if (*n + length + 2 * i + 2 > 245) break;
+        lengths[i] = length, *n += length;
+    }
+    return i;
+}
+
+/* The length byte of some group of a good reply. */
+static size_t some_group(const uint8_t *p, size_t n)
+{
+    size_t at = 2;
+    while (chance(9) && at + p[at] + 2 < n) at += p[at] + 2;
+    return at;
+}
+
+/* A byte changed, some at the end cut off, or some put there; most often the byte count is then made right. Answers how many bytes there are. */
+static size_t spoil(uint8_t *p, size_t n)
+{
+    size_t at = chance(n), more = 1 + chance(chance(9) ? 9 : 50);
+    switch (chance(5)) {
+    case 0: n = at; break;
+    case 1: random_bytes(p + n, more), n += more; break;
+    case 2: p[at] = chance(8); break;
+    case 3: p[at]++; break;
+    default: damage(p, n);
+    }
+    if (chance(4)) p[1] = n - 2;
+    return n;
+}
+
+static void make_descriptor(uint8_t *p, size_t n)
+{
+    random_bytes(p, n);
+    put_be16(p + 2, 1), put_be16(p + 8, chance(4));
+}
+
 static void differ(const char *what)
 {
     fprintf(stderr, "%s: Rattle and C answer differently\n", what);
@@ -243,6 +330,56 @@ static void check_send(const uint8_t *file, size_t n, size_t largest, size_t pla
     memset(one, 0x5A, sizeof one), memset(other, 0x5A, sizeof other);
     struct sent a = rattle_send(file, n, session, largest, place, one, room), b = plain_send(file, n, session, largest, place, other, room);
     if (a.refused != b.refused || a.length != b.length || a.next != b.next || memcmp(one, other, sizeof one)) differ("send");
+    *good += !a.refused;
+}
+
+struct pdus { unsigned asked, replied, empty, described, found; };
+
+/* Any bytes, as a request of ADI, as a reply and as a descriptor; and what stands at places of them that are near 0, near the last, and anywhere. */
+static void check_pdu(const uint8_t *p, size_t n, struct pdus *good)
+{
+    struct counted a = rattle_adi_read_request(p, n), b = plain_adi_read_request(p, n);
+    if (a.refused != b.refused || a.n != b.n) differ("adi_request::read_request");
+    struct groups c = rattle_adi_read_reply(p, n), d = plain_adi_read_reply(p, n);
+    if (c.refused != d.refused || c.no_data != d.no_data || c.count != d.count || c.length != d.length || c.n != d.n) differ("adi_reply::read_reply");
+    struct descriptor e = rattle_adi_read_descriptor(p, n), f = plain_adi_read_descriptor(p, n);
+    if (e.refused != f.refused || e.contents != f.contents || e.length != f.length || e.kind != f.kind || e.records != f.records
+        || e.record_length != f.record_length || e.next != f.next || e.total != f.total) differ("adi::read_descriptor");
+    good->asked += !a.refused, good->replied += !c.refused && !c.no_data, good->empty += c.no_data, good->described += !e.refused;
+    for (int i = 0; i < 4; i++) {
+        size_t place = i == 0 ? chance(4) : i == 1 ? a.n + c.n + chance(2) : i == 2 ? chance(70) : (size_t)-1 / (1 + chance(9));
+        struct asked g = rattle_adi_asked_at(p, n, place), h = plain_adi_asked_at(p, n, place);
+        if (g.there != h.there || g.file != h.file || g.record != h.record || g.length != h.length) differ("adi_request::asked_at");
+        struct registers j = rattle_adi_registers_at(p, n, place), k = plain_adi_registers_at(p, n, place);
+        if (j.first != k.first || j.length != k.length) differ("adi_reply::registers_at");
+        good->found += g.there + (j.length > 0);
+    }
+}
+
+static void check_write_asks(const struct ask *groups, size_t n, size_t room, unsigned *good)
+{
+    uint8_t one[300], other[300];
+    memset(one, 0x5A, sizeof one), memset(other, 0x5A, sizeof other);
+    struct counted a = rattle_adi_write_request(groups, n, one, room), b = plain_adi_write_request(groups, n, other, room);
+    if (a.refused != b.refused || a.n != b.n || memcmp(one, other, sizeof one)) differ("adi_request::write_request");
+    *good += !a.refused;
+}
+
+static void check_write_groups(const uint8_t *lengths, size_t groups, const uint8_t *registers, size_t n, size_t room, unsigned *good)
+{
+    uint8_t one[300], other[300];
+    memset(one, 0x5A, sizeof one), memset(other, 0x5A, sizeof other);
+    struct counted a = rattle_adi_write_reply(lengths, groups, registers, n, one, room), b = plain_adi_write_reply(lengths, groups, registers, n, other, room);
+    if (a.refused != b.refused || a.n != b.n || memcmp(one, other, sizeof one)) differ("adi_reply::write_reply");
+    *good += !a.refused;
+}
+
+static void check_write_no_data(uint8_t count, uint8_t length, size_t room, unsigned *good)
+{
+    uint8_t one[9], other[9];
+    memset(one, 0x5A, sizeof one), memset(other, 0x5A, sizeof other);
+    struct counted a = rattle_adi_write_no_data(count, length, one, room), b = plain_adi_write_no_data(count, length, other, room);
+    if (a.refused != b.refused || a.n != b.n || memcmp(one, other, sizeof one)) differ("adi_reply::write_no_data");
     *good += !a.refused;
 }
 
@@ -418,7 +555,147 @@ static int check(void)
     return 0;
 }
 
+/* What ADI meters are asked for and answer. By itself, as is adi_work, so that what is counted in main stays as it is. */
+__attribute__((noinline)) static int check_adi(void)
+{
+    static uint8_t p[1000], q[1000], lengths[300], registers[300];
+    struct ask groups[40];
+    struct pdus pdus = {0};
+    unsigned asks = 0, brought = 0, empty = 0;
+    for (int i = 0; i < 50000; i++) {
+        /* a good request; one of its groups at an edge, then another or the same once more; its bytes spoilt; any number of groups */
+        size_t n = 1 + chance(35), bytes, at;
+        for (size_t k = 0; k < 40; k++) groups[k] = make_ask();
+        for (int k = 0; k < 3; k++) {
+            check_write_asks(groups, n, 7 * n + 1 + chance(3), &asks);
+            bytes = put_asks(p, groups, n);
+            check_pdu(p, bytes, &pdus);
+            at = chance(n);
+            groups[at] = edge_ask(groups[at]);
+        }
+        at = chance(n);
+        p[2 + 7 * at] = 5 + chance(3);
+        check_pdu(p, bytes, &pdus);
+        bytes = spoil(p, bytes);
+        check_pdu(p, bytes, &pdus);
+        for (size_t k = 0; k < 40; k++) groups[k] = make_ask();
+        n = chance(3) ? 34 + chance(4) : chance(41);
+        check_write_asks(groups, n, chance(2) ? 300 : chance(300), &asks);
+        bytes = put_asks(p, groups, n);
+        check_pdu(p, bytes, &pdus);
+
+        /* a good reply, of many small groups, of some, or of one of any length; a length or a type of it off by little; its bytes spoilt */
+        size_t kind = chance(3), most = kind == 0 ? 70 : kind == 1 ? 8 : 1, all;
+        n = make_lengths(lengths, 1 + chance(most), kind == 0 ? 6 : kind == 1 ? 60 : 242, &bytes);
+        random_bytes(registers, sizeof registers);
+        check_write_groups(lengths, n, registers, bytes, bytes + 2 * n + 1 + chance(3), &brought);
+        all = put_groups(p, lengths, n);
+        check_pdu(p, all, &pdus);
+        for (int k = 0; k < 2; k++) {
+            memcpy(q, p, all);
+            at = some_group(q, all);
+            if (k) q[at] = chance(3);
+            else if (chance(2)) q[at] += 1 + chance(2);
+            else q[at + 1] += 1 + chance(2);
+            check_pdu(q, all, &pdus);
+        }
+        at = spoil(q, all);
+        check_pdu(q, at, &pdus);
+        at = spoil(p, all);
+        check_pdu(p, at, &pdus);
+        /* lengths that are 0, odd or too many, and most often add up */
+        for (int k = 0; k < 3; k++) {
+            if (k == 1) n = 59 + chance(5), bytes = 2 * n, memset(lengths, 2, sizeof lengths);
+            if (k == 2) n = 1 + chance(140), bytes = 0, memset(lengths, 0, sizeof lengths);
+            at = chance(n);
+            bytes -= lengths[at];
+            lengths[at] = chance(6);
+            bytes += lengths[at];
+            size_t room = chance(2) ? 300 : chance(9);
+            check_write_groups(lengths, n, registers, chance(4) ? bytes : bytes + chance(3), room, &brought);
+            all = put_groups(p, lengths, n);
+            check_pdu(p, all, &pdus);
+        }
+
+        /* no data, and other short ones */
+        uint8_t count = chance(256), length = chance(256);
+        check_write_no_data(count, length, 3 + chance(3), &empty);
+        plain_adi_write_no_data(count, length, p, 4);
+        check_pdu(p, 4, &pdus);
+        n = spoil(p, 4);
+        check_pdu(p, n, &pdus);
+        random_bytes(p, 20);
+        n = chance(20);
+        if (chance(4)) p[0] = 0x14, p[1] = n - 2;
+        check_pdu(p, n, &pdus);
+
+        make_descriptor(p, 20);
+        check_pdu(p, 15 + chance(6), &pdus);
+        damage(p, 16);
+        check_pdu(p, 16, &pdus);
+        make_descriptor(p, 20);
+        at = chance(2) ? 2 : 8;
+        put_be16(p + at, chance(6));
+        check_pdu(p, 16, &pdus);
+    }
+    fprintf(stderr, "and of ADI meters: 1,000,000 PDUs as requests (%u accepted), as replies (%u, and %u without data) and as descriptors (%u), 4,000,000 places of either (%u found), 200,000 requests written (%u), 200,000 replies (%u), 50,000 without data (%u)\n",
+            pdus.asked, pdus.replied, pdus.empty, pdus.described, pdus.found, asks, brought, empty);
+    if (pdus.asked < 100000 || pdus.replied < 80000 || pdus.empty < 50000 || pdus.described < 80000 || pdus.found < 1000000 || asks < 50000 || brought < 30000 || empty < 30000) {
+        fprintf(stderr, "too few inputs are accepted\n");
+        return 1;
+    }
+    return 0;
+}
+
 #define BOTH(name, ...) (us ? rattle_##name(__VA_ARGS__) : plain_##name(__VA_ARGS__))
+
+/* Works on PDUs of ADI: n is how many groups there are, how many bytes, or which place. */
+__attribute__((noinline)) static uint64_t adi_work(bool us, const char *work, size_t n, size_t reps)
+{
+    static uint8_t p[300], buffer[300], lengths[61];
+    struct ask asks[35];
+    size_t all = 0;
+    uint64_t sum = 0;
+    for (int i = 0; i < 35; i++) asks[i] = make_ask();
+    memset(lengths, 2, sizeof lengths);
+    if (!strcmp(work, "request")) {
+        all = put_asks(p, asks, n);
+        while (reps--) sum += BOTH(adi_read_request, p, all).n;
+    } else if (!strcmp(work, "refused")) {
+        asks[n - 1].length = 0;
+        all = put_asks(p, asks, n);
+        while (reps--) sum += BOTH(adi_read_request, p, all).refused;
+    } else if (!strcmp(work, "asked")) {
+        all = put_asks(p, asks, 35);
+        while (reps--) sum += BOTH(adi_asked_at, p, all, n).record;
+    } else if (!strcmp(work, "ask")) {
+        while (reps--) sum += BOTH(adi_write_request, asks, n, buffer, sizeof buffer).n + buffer[5];
+    } else if (!strcmp(work, "record")) {
+        lengths[0] = n;
+        all = put_groups(p, lengths, 1);
+        while (reps--) sum += BOTH(adi_read_reply, p, all).n;
+    } else if (!strcmp(work, "records")) {
+        all = put_groups(p, lengths, n);
+        while (reps--) sum += BOTH(adi_read_reply, p, all).n;
+    } else if (!strcmp(work, "empty")) {
+        plain_adi_write_no_data(2, 0, p, n);
+        while (reps--) sum += BOTH(adi_read_reply, p, n).count;
+    } else if (!strcmp(work, "registers")) {
+        all = put_groups(p, lengths, 61);
+        while (reps--) sum += BOTH(adi_registers_at, p, all, n).length;
+    } else if (!strcmp(work, "bring")) {
+        lengths[0] = n;
+        random_bytes(p, n);
+        while (reps--) sum += BOTH(adi_write_reply, lengths, 1, p, n, buffer, sizeof buffer).n + buffer[5];
+    } else if (!strcmp(work, "brings")) {
+        random_bytes(p, 2 * n);
+        while (reps--) sum += BOTH(adi_write_reply, lengths, n, p, 2 * n, buffer, sizeof buffer).n + buffer[5];
+    } else {
+        make_descriptor(p, n);
+        while (reps--) sum += BOTH(adi_read_descriptor, p, n).total;
+    }
+    return sum;
+}
 
 int main(int argc, char **argv)
 {
@@ -426,7 +703,7 @@ int main(int argc, char **argv)
     static struct fields cards[400];
     static struct date dates[401];
     uint64_t sum = 0;
-    if (argc == 2) return check();
+    if (argc == 2) return check() || check_adi();
     bool us = argv[1][0] == 'r';
     const char *work = argv[2];
     size_t n = atol(argv[3]), reps = atol(argv[4]);
@@ -444,7 +721,9 @@ int main(int argc, char **argv)
         }
         return 0;
     }
-    if (!strcmp(work, "checksum")) {
+    if (!strncmp(work, "adi-", 4)) {
+        sum = adi_work(us, work + 4, n, reps);
+    } else if (!strcmp(work, "checksum")) {
         random_bytes(p, n);
         while (reps--) sum += BOTH(checksum, p, n);
     } else if (!strcmp(work, "stretches")) {

@@ -1,6 +1,7 @@
 """The acts of CASES.md: what each answers, as the words of its line, and which refusal numbers it can give."""
 from functools import partial
 
+import adi
 import archive
 import card
 import clock
@@ -17,7 +18,7 @@ from cases.making import changed
 from crc import crc16, crc32
 from dates import NO_DATE, is_date
 from digits import digit, digit_of
-from encoding import CALL, table_bytes, table_from
+from encoding import ASKED, CALL, table_bytes, table_from
 from lrc import lrc, summed
 
 
@@ -289,6 +290,26 @@ def course(numbers, strings):
     return told(0, table[2], changed(output, 0, table_bytes(table) + answers))
 
 
+def asked_at(numbers, strings):
+    """1 and the group's fields, or 0 for a place that is not there."""
+    group = adi.asked_at(*numbers, *strings)
+    return told(0, 0) if group is None else told(0, 1, *group)
+
+
+def write_asked(groups, output):
+    """Bytes of a last part group are left out."""
+    whole = len(groups) // ASKED.size * ASKED.size
+    return adi.write_request(list(ASKED.iter_unpack(groups[:whole])), output)
+
+
+def registers_at(numbers, strings):
+    return told(0, adi.registers_at(*numbers, *strings))
+
+
+def write_no_data(count, length, _, output):
+    return adi.write_no_data(count, length, output)
+
+
 # act: name, the refusal numbers that it can give, its answer
 ACTS = {
     1: ("checksum_from", [], checksum_from),
@@ -353,4 +374,14 @@ ACTS = {
     85: ("clear", [20, 101, 102], of_table(85)),
     86: ("turn", [20, 105], of_table(86)),
     87: ("course of turns", [], course),
+    90: ("ADI read_request", [10, 80, 81, 82, 83], reader(adi.read_request)),
+    91: ("asked_at", [], asked_at),
+    92: ("ADI write_request", [80, 82, 83, 16], writer(write_asked)),
+    93: ("ADI read_reply", [10, 80, 81, 83], reader(adi.read_reply)),
+    94: ("registers_at", [], registers_at),
+    95: ("ADI write_reply", [80, 83, 16], writer(of_two(adi.write_reply))),
+    96: ("write_no_data", [16], writer(write_no_data)),
+    97: ("read_descriptor", [84], reader(adi.read_descriptor)),
+    98: ("exchange in RTU", [40, 41, 44, 10, 80, 81, 82, 83, 16], writer(of_two(adi.exchange_rtu))),
+    99: ("exchange in TCP", [40, 41, 42, 43, 10, 80, 81, 82, 83, 16], writer(of_two(adi.exchange_tcp))),
 }

@@ -1,10 +1,14 @@
 """A case as bytes and an answer as a line, by CASES.md."""
 import struct
 
+# An answer's line, its line feed too.
+LONGEST_LINE = 4096
 # A slot of a table of turns: address, due.
 SLOT = struct.Struct("<I?")
 # A call of a course: its act, slot and address; and its answer: number, slot and address.
 CALL = struct.Struct("<BQI")
+# A group that a request asks for: file, record, length.
+ASKED = struct.Struct("<HHH")
 
 
 def le(number, width):

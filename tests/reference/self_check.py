@@ -1,11 +1,13 @@
-"""The reference against what it was not made from: printed traffic, published check values and functions, 01's edges, cards by hand, python's calendar and CRC-32."""
+"""The reference against what it was not made from: printed traffic, published check values and functions, 01's edges, cards and file records by hand, python's calendar and CRC-32."""
 import calendar
 import datetime
 import itertools
 import random
+import re
 import zlib
 from collections import Counter
 
+import adi
 import card
 import clock
 import datagram
@@ -396,6 +398,140 @@ def tables():
         same(f"{name} in a course", (refusal, table), (due, (tuple(held.get(k, 0) for k in range(1, 33)), tuple(k in waiting for k in range(1, 33)), last)))
 
 
+# 02, W-207, by hand. The first request is the public standard's example; its reply is the first one here but for the lengths, which there count the type.
+ASKED = [
+    # groups (file, record, length), request
+    ([(4, 1, 2), (3, 9, 2)], "14 0E 06 0004 0001 0002 06 0003 0009 0002"),
+    ([(1, 0, 8)], "14 07 06 0001 0000 0008"),
+    ([(65_535, 9999, 65_535)], "14 07 06 FFFF 270F FFFF"),
+]
+BROUGHT = [
+    # registers of each group, reply
+    (["0DFE 0020", "33CD 0040"], "14 0C 04 06 0DFE 0020 04 06 33CD 0040"),
+    (["1122"], "14 04 02 06 1122"),
+    (["1122", "3344 5566 7788"], "14 0C 02 06 1122 06 06 3344 5566 7788"),
+]
+NO_REQUESTS = [
+    (10, ""), (10, "94 02"), (10, "0E 07 06 0001 0000 0008"), (80, "14"), (80, "14 00"), (80, "14 02 00 06"), (80, "14 08 06 0001 0000 0008"),
+    (80, "14 08 06 0001 0000 0008 06"), (81, "14 07 07 0000 2710 0000"), (82, "14 07 06 0000 0000 0000"), (82, "14 07 06 0001 2710 0000"),
+    (83, "14 07 06 0001 270F 0000"), (83, "14 0E 06 0001 0000 0000 07 0000 2710 0000"), (81, "14 0E 06 0001 0000 0001 07 0000 2710 0000"),
+]
+NO_REPLIES = [
+    (10, ""), (10, "94 02"), (10, "94 02 00 06"), (81, "14 02 00 05"), (80, "14"), (80, "14 01 02"), (80, "14 03 02 06 11"), (80, "14 05 02 06 1122"),
+    (83, "14 0C 05 06 0DFE 0020 05 06 33CD 0040"), (83, "14 04 03 06 1122"), (81, "14 05 02 06 1122 02"), (83, "14 06 02 06 1122 02 06"),
+    (83, "14 06 02 06 1122 00 06"), (81, "14 06 02 06 1122 00 07"), (83, "14 07 01 06 11 02 07 1122"), (81, "14 07 01 07 11 02 07 1122"),
+]
+
+
+def file_records():
+    """02, W-207, both sides of its edges; a refusal leaves the output."""
+    for groups, text in ASKED:
+        one = bytes.fromhex(text)
+        same(f"read {text}", adi.read_request(one), (0, (len(groups),)))
+        same(f"asked by {text}", [adi.asked_at(place, one) for place in range(len(groups) + 2)], [None, *groups, None])
+        same(f"written {text}", adi.write_request(groups, bytes(len(one)) + b"\x5A"), (0, len(one), one + b"\x5A"))
+        same(f"written {text} into a byte too few", adi.write_request(groups, one[1:]), (16, None, one[1:]))
+    for groups, text in BROUGHT:
+        one, registers = bytes.fromhex(text), [bytes.fromhex(group) for group in groups]
+        lengths = list(map(len, registers))
+        same(f"read {text}", adi.read_reply(one), (0, (len(groups),)))
+        same(f"brought by {text}", [adi.registers_at(place, one) for place in range(len(groups) + 2)], [b"", *registers, b""])
+        same(f"written {text}", adi.write_reply(lengths, b"".join(registers), bytes(len(one)) + b"\x5A"), (0, len(one), one + b"\x5A"))
+        same(f"written {text} into a byte too few", adi.write_reply(lengths, b"".join(registers), one[1:]), (16, None, one[1:]))
+    for due, text in NO_REQUESTS:
+        same(f"request {text}", adi.read_request(bytes.fromhex(text)), (due, None))
+    for due, text in NO_REPLIES:
+        same(f"reply {text}", adi.read_reply(bytes.fromhex(text)), (due, None))
+    for count, length in itertools.product((0, 2, 4, 255), repeat=2):
+        one = bytes([0x14, count, length, 6])
+        same("no data", (adi.read_reply(one), adi.write_no_data(count, length, bytes(5))), ((0, (count, length)), (0, 4, one + b"\x00")))
+    same("no data into three bytes", adi.write_no_data(2, 0, bytes(3)), (16, None, bytes(3)))
+    for count, due in ((0, 80), (1, 0), (35, 0), (36, 80)):
+        same(f"{count} groups", adi.write_request([(1, 0, 1)] * count, bytes(300))[0], due)
+    for groups, due in (([(0, 0, 0)], 82), ([(1, 10_000, 0)], 82), ([(1, 9999, 0)], 83), ([(1, 0, 0), (0, 0, 1)], 83)):
+        same(f"written {groups}", adi.write_request(groups, b""), (due, None, b""))
+    # the lengths of a reply's groups, with as many registers
+    for lengths, due in (([], 80), ([0], 80), ([1], 80), ([2], 0), ([3], 83), ([242], 0), ([243], 83), ([244], 80), ([2, 0], 83), ([2, 1], 83), ([1, 1], 83),
+                         ([2] * 61, 0), ([2] * 60 + [4], 80), ([0] * 122, 83), ([0] * 123, 80)):
+        same(f"lengths {lengths}", adi.write_reply(lengths, bytes(sum(lengths)), bytes(300))[0], due)
+        same(f"lengths {lengths}, a register byte more", adi.write_reply(lengths, bytes(sum(lengths) + 1), bytes(300))[0], 80)
+
+
+def unjudged():
+    """02, W-207: places in any bytes."""
+    for length, due in ((0, None), (2, None), (8, None), (9, (0, 0, 0)), (15, (0, 0, 0))):
+        same(f"place 1 of {length} bytes", adi.asked_at(1, bytes(length)), due)
+    same("places far away", [adi.asked_at(place, bytes(300)) for place in (42, 43, 2 ** 32 + 1, 2 ** 64 - 1)], [(0, 0, 0), None, None, None])
+    # lengths 1, 0 and 3, of which the last tells a byte too many; and one that tells 255
+    for text, due in (("00 00 01 00 11 00 00 03 00 22 33", ["", "11", "", "2233", "", ""]), ("14 FF FF", [""] * 6), ("FF FF FF FF 11", ["", "11", "", "", "", ""])):
+        same(f"places of {text}", [adi.registers_at(place, bytes.fromhex(text)) for place in (0, 1, 2, 3, 4, 2 ** 64 - 1)], list(map(bytes.fromhex, due)))
+
+
+def descriptors():
+    """02, W-207: 65,538 records, low word first."""
+    one = bytes.fromhex("0010 0001 05A0 0018 0003 0102 0002 0001")
+    same("descriptor", adi.read_descriptor(one), (0, (16, 1, 1440, 24, 3, 258, 65_538)))
+    same("bytes after it", adi.read_descriptor(one + b"\x5A"), adi.read_descriptor(one))
+    same("15 bytes", adi.read_descriptor(one[:15]), (84, None))
+    for at, word in ((2, "0000"), (2, "0002"), (2, "0101"), (8, "0004"), (8, "0100")):
+        same(f"descriptor with {word} at {at}", adi.read_descriptor(one[:at] + bytes.fromhex(word) + one[at + 2:]), (84, None))
+
+
+def exchanges():
+    """02, W-207, in TCP by hand; in RTU beside it."""
+    request, reply = bytes.fromhex("14 07 06 0001 0000 0001"), bytes.fromhex("14 04 02 06 1122")
+    before, after = bytes.fromhex("1234 0000 000A 11"), bytes.fromhex("1234 0000 0007 11")
+    registers = bytes.fromhex("1122")
+    same("in TCP", adi.exchange_tcp(before + request, registers, bytes(14)), (0, 13, after + reply + b"\x00"))
+    same("in TCP, no data", adi.exchange_tcp(before + request, b"", bytes(11)), (0, 11, bytes.fromhex("1234 0000 0005 11 14 02 00 06")))
+    line = modbus.rtu_bytes(0x11, request[0], request[1:])
+    same("in RTU", adi.exchange_rtu(line, registers, bytes(10)), (0, 9, modbus.rtu_bytes(0x11, reply[0], reply[1:]) + b"\x00"))
+    for due, packet, given, room in ((43, before + request[:-1], registers, 13), (10, before + b"\x15" + request[1:], registers, 13),
+                                     (83, before + request[:-1] + b"\x00", registers, 13), (80, before + request, b"\x11", 13), (16, before + request, registers, 12)):
+        same(f"{due} in TCP", adi.exchange_tcp(packet, given, bytes(room)), (due, None, bytes(room)))
+    same("44 in RTU", adi.exchange_rtu(line[:-1] + b"\x00", registers, bytes(9)), (44, None, bytes(9)))
+
+
+# what a request and a reply are, as expressions over their bytes; of a reply's groups each length by itself
+A_REQUEST = re.compile(rb"\x14.(?:\x06(?!\x00\x00)..(?:[\x00-\x26].|\x27[\x00-\x0F])(?!\x00\x00)..){1,35}", re.DOTALL)
+A_REPLY = re.compile(rb"\x14.(?:" + b"|".join(re.escape(bytes([length, 6])) + b".{%d}" % length for length in range(2, 244, 2)) + rb")+", re.DOTALL)
+
+
+def any_requests():
+    """The first group at fault decides, and in it the first fault; what is accepted is written again as it was."""
+    rng = random.Random(207)
+    for _ in range(2000):
+        groups = [(rng.choice((0, 1, 256, 65_535)), rng.choice((0, 9999, 10_000)), rng.choice((0, 1, 256))) if rng.randrange(5) == 0 else (1, 2, 3)
+                  for _ in range(rng.randint(1, 5))]
+        numbers = [82 if file == 0 or record == 10_000 else 83 if length == 0 else 0 for file, record, length in groups]
+        due = next(filter(None, numbers), 0)
+        request = adi.request_bytes(groups)
+        same("the first group at fault", (adi.read_request(request)[0], adi.write_request(groups, request)[0]), (due, due))
+        wrong = rng.randrange(len(groups))
+        typed = request[:2 + 7 * wrong] + b"\x07" + request[3 + 7 * wrong:]
+        same("a type among them", adi.read_request(typed)[0], next(filter(None, numbers[:wrong]), 81))
+        same("a request", (due == 0, False), tuple(A_REQUEST.fullmatch(each) is not None for each in (request, typed)))
+        same("what it asks for", [adi.asked_at(place, request) for place in range(1, len(groups) + 1)], groups)
+        if due == 0:
+            same("written again", adi.write_request(groups, bytes(len(request))), (0, len(request), request))
+
+
+def any_replies():
+    """Good ones with a byte changed, put in or left out: what is accepted is a reply, and is written again as it was."""
+    rng = random.Random(207)
+    for _ in range(2000):
+        lengths = [rng.choice((2, 2, 4, 6)) for _ in range(rng.randint(1, 5))]
+        body = adi.reply_bytes(lengths, rng.randbytes(sum(lengths)))[2:]
+        at, byte = rng.randrange(len(body)), bytes([rng.choice((0, 1, 2, 3, 4, 5, 6, 7, 255))])
+        body = rng.choice((body, body[:at] + byte + body[at + 1:], body[:at] + byte + body[at:], body[:at] + body[at + 1:]))
+        reply = bytes([0x14, len(body)]) + body
+        refusal, count = adi.read_reply(reply)
+        same("a reply", refusal == 0, len(body) > 3 and A_REPLY.fullmatch(reply) is not None)
+        if refusal == 0:
+            groups = [adi.registers_at(place, reply) for place in range(1, count[0] + 1)]
+            same("written again", adi.write_reply(list(map(len, groups)), b"".join(groups), bytes(len(reply))), (0, len(reply), reply))
+
+
 def dates():
     """Every year, month and day within the ranges and just beyond, beside python's calendar."""
     for year, month, day in itertools.product(range(101), range(14), range(33)):
@@ -419,7 +555,7 @@ def seconds():
 def check():
     for one in (checksums, crc32s, printed_frames, printed_sessions, counted_from_start, printed_datagrams, datagram_edges, texts, sent_and_received,
                 modbus_examples, functions_of_003, ascii_lengths, edges, on_its_way, agreed_part, lister, archive_cards, both_forms,
-                collector, tables, dates, seconds):
+                collector, tables, file_records, unjudged, descriptors, exchanges, any_requests, any_replies, dates, seconds):
         one()
 
 

@@ -4,6 +4,7 @@ pub mod Fields
 pub mod Lawful
 pub mod Promise
 pub mod RoundTrip
+pub mod Pdu
 pub mod Order
 pub mod Stretches
 pub mod Edges

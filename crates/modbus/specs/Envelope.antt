@@ -74,6 +74,10 @@ functionOf before s = getD s (before + 1) 0
 abbrev pub dataOf : ℕ → ℕ → List ℕ → List ℕ
 dataOf before after s = take (length s - (before + 2 + after)) (drop (before + 2) s)
 
+-- function and data as one: what Modbus calls the PDU
+abbrev pub pduOf : ℕ → ℕ → List ℕ → List ℕ
+pduOf before after s = take (length s - (before + 1 + after)) (drop (before + 1) s)
+
 -- the message that bytes on the line say
 abbrev pub saidBy : Envelope → List ℕ → Message
 saidBy e s = message (addressOf (e .before) (e .ofLine s)) (functionOf (e .before) (e .ofLine s)) (dataOf (e .before) (e .after) (e .ofLine s))

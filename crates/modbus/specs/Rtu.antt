@@ -11,7 +11,7 @@ use Rattle.wire.specs.Answer.{answered}
 use Rattle.wire.specs.Numbers.{le, ofLe, field}
 use Rattle.wire.specs.Refusal.{Rule, _when_, first}
 use Rattle.wire.specs.Told.{Told, accepted, refused}
-use Rattle.modbus.specs.Envelope.{Message, Envelope, saidBy, tooShort, tooLong}
+use Rattle.modbus.specs.Envelope.{Message, Envelope, pduOf, saidBy, tooShort, tooLong}
 use Rattle.modbus.specs.declared.RtuRead.{RtuRead}
 use Rattle.modbus.specs.declared.RtuRead.the-variants.{Rtu as Found, Refused}
 
@@ -53,6 +53,9 @@ rtu =
 
 abbrev pub rtuData : List ℕ → List ℕ
 rtuData s = saidBy rtu s .«data»
+
+abbrev pub rtuPdu : List ℕ → List ℕ
+rtuPdu s = pduOf (rtu .before) (rtu .after) s
 
 -- the answer to a message that is read, and to any bytes
 abbrev pub foundRtu : Message → RtuRead

@@ -10,7 +10,7 @@ use Rattle.wire.specs.Answer.{answered}
 use Rattle.wire.specs.Numbers.{be, ofBe, field}
 use Rattle.wire.specs.Refusal.{Rule, _when_, first}
 use Rattle.wire.specs.Told.{Told, accepted, refused}
-use Rattle.modbus.specs.Envelope.{Message, Envelope, saidBy, tooShort, tooLong}
+use Rattle.modbus.specs.Envelope.{Message, Envelope, pduOf, saidBy, tooShort, tooLong}
 use Rattle.modbus.specs.declared.TcpRead.{TcpRead}
 use Rattle.modbus.specs.declared.TcpRead.the-variants.{Tcp as Found, Refused}
 
@@ -73,6 +73,9 @@ tcpSaid s = saidBy (tcp (transactionOf s)) s
 
 abbrev pub tcpData : List ℕ → List ℕ
 tcpData s = tcpSaid s .«data»
+
+abbrev pub tcpPdu : List ℕ → List ℕ
+tcpPdu s = pduOf (tcp (transactionOf s) .before) (tcp (transactionOf s) .after) s
 
 -- the answer to a message that is read, and to any bytes
 abbrev pub foundTcp : ℕ → Message → TcpRead

@@ -8,8 +8,8 @@ ghost use lib.ListN.{length};
 ghost use lib.Seq.{sets};
 ghost use Rattle.wire.specs.Refusal.{first};
 ghost use Rattle.modbus.specs.Envelope.{message, bytesOf, WritesEnvelope};
-ghost use Rattle.modbus.specs.Rtu.{rtu, rtuData, rtuRules, readRtu, badCrc};
-ghost use Rattle.modbus.specs.Tcp.{tcp, tcpData, tcpRules, readTcp, badProtocol, badLength};
+ghost use Rattle.modbus.specs.Rtu.{rtu, rtuData, rtuPdu, rtuRules, readRtu, badCrc};
+ghost use Rattle.modbus.specs.Tcp.{tcp, tcpData, tcpPdu, tcpRules, readTcp, badProtocol, badLength};
 
 pub struct Rtu {
     pub address: u8,
@@ -74,6 +74,13 @@ pub fn rtu_data(bytes: &[u8]) -> &[u8]
     ensures { λ r. ⌜ now r ≡ rtuData (now (bytes .entry)) ⌝ }
 {
     wire::front(wire::rest(bytes, 2), wire::minus(bytes.len(), 4))
+}
+
+// Function and data as one: what stands between address and CRC.
+pub fn rtu_pdu(bytes: &[u8]) -> &[u8]
+    ensures { λ r. ⌜ now r ≡ rtuPdu (now (bytes .entry)) ⌝ }
+{
+    wire::front(wire::rest(bytes, 1), wire::minus(bytes.len(), 3))
 }
 
 fn put_rtu(address: u8, function: u8, data: &[u8], out: &mut [u8])
@@ -149,6 +156,13 @@ pub fn tcp_data(bytes: &[u8]) -> &[u8]
     ensures { λ r. ⌜ now r ≡ tcpData (now (bytes .entry)) ⌝ }
 {
     wire::front(wire::rest(bytes, 8), wire::minus(bytes.len(), 8))
+}
+
+// Function and data as one: what stands after the unit.
+pub fn tcp_pdu(bytes: &[u8]) -> &[u8]
+    ensures { λ r. ⌜ now r ≡ tcpPdu (now (bytes .entry)) ⌝ }
+{
+    wire::front(wire::rest(bytes, 7), wire::minus(bytes.len(), 7))
 }
 
 fn put_tcp(transaction: u16, unit: u8, function: u8, data: &[u8], out: &mut [u8])

@@ -4,6 +4,8 @@ mod clocks;
 mod collector;
 mod datagrams;
 mod envelope;
+mod exchanges;
+mod file_records;
 mod files;
 mod frames;
 mod ground;
@@ -57,6 +59,8 @@ fn answer(act: u8, numbers: &[u8], bytes: &[u8], out: &mut [u8]) -> bool {
         60 => clocks::answer(numbers),
         71..=80 => datagrams::answer(act, numbers, bytes, out),
         81..=87 => tables::answer(act, numbers, bytes, out),
+        90..=97 => file_records::answer(act, numbers, bytes, out),
+        98..=99 => exchanges::answer(act, numbers, bytes, out),
         _ => say::unknown(act),
     }
 }

@@ -5,6 +5,7 @@ pub mod Fields
 pub mod Turns
 pub mod Writing
 pub mod Refusal
+pub mod InTurn
 pub mod Answer
 pub mod Writes
 pub mod Digits

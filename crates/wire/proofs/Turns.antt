@@ -10,8 +10,8 @@ use lib.Arith.{digits-lt}
 use lib.Dec.{lit<, ltb}
 use mathlib.Core.Bool.{Bool, true, false}
 use borrow.Author.Tests.{ltb-true, ltb-false}
-use lib.ListN.{length, getD, drop, drop-of-length-le, List·getD-eq-default}
-use lib.Seq.{getD-drop, drop-cons}
+use lib.ListN.{length, getD, take, drop, length-drop, drop-of-length-le, List·getD-eq-default}
+use lib.Seq.{take-all, getD-drop, drop-cons}
 use Rattle.wire.specs.Numbers.{number, ofLe, field}
 
 -- the bytes of a part from its beginning are the bytes of the whole from the part's place
@@ -21,6 +21,10 @@ field-drop s at i zero = refl
 field-drop s at i (suc w) =
     let e : at + (i + 1) ≡ at + i + 1 = omega arith in
     ap₂ (λ (x : ℕ) (xs : List ℕ). x ∷ xs) (getD-drop at s i 0) (field-drop s at (i + 1) w ∙ ap (λ (k : ℕ). field s k w) e)
+
+-- a part from a place on
+pub part-from : (s : List ℕ) (at : ℕ) → take (length s - at) (drop at s) ≡ drop at s
+part-from s at = take-all (length s - at) (drop at s) (let l = length-drop at s in omega arith)
 
 pub field-of-rest : (s : List ℕ) (at w : ℕ) → field (drop at s) 0 w ≡ field s at w
 field-of-rest s at w = field-drop s at 0 w ∙ ap (λ (k : ℕ). field s k w) (add-zero at)

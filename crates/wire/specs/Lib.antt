@@ -1,6 +1,7 @@
 pub mod Each
 pub mod Numbers
 pub mod Refusal
+pub mod InTurn
 pub mod Digits
 pub mod Answer
 pub mod Told

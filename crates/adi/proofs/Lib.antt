@@ -1,0 +1,4 @@
+pub mod Groups
+pub mod Room
+pub mod Order
+pub mod Unique

@@ -1,0 +1,4 @@
+pub mod Groups
+pub mod Head
+pub mod Room
+pub mod Descriptor

@@ -1,0 +1,7 @@
+pub mod Judging
+pub mod Stores
+pub mod Bytes
+pub mod RoundTrip
+pub mod Places
+pub mod Order
+pub mod Unique
