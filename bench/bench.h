@@ -29,6 +29,11 @@ struct fields { uint8_t refused, channel, year, month, day, hour, minute, second
 struct archive_fields { struct fields card; uint8_t archive; };
 /* of a course of calls on a table of turns: what the answers came to, and how many were no refusals */
 struct told { uint64_t sum, good; };
+/* of a summary of an archive: place that of 72 and 73; step the one at the index that was asked for, 0 past the end */
+struct summed_f32 { uint8_t refused; size_t place; float first; size_t first_place; float last; size_t last_place, present; float step; };
+struct summed_f64 { uint8_t refused; size_t place; double first; size_t first_place; double last; size_t last_place, present; double step; };
+struct summed_u32 { uint8_t refused; size_t place; uint32_t first; size_t first_place; uint32_t last; size_t last_place, present; uint32_t step; };
+struct summed_u64 { uint8_t refused; size_t place; uint64_t first; size_t first_place; uint64_t last; size_t last_place, present; uint64_t step; };
 
 uint16_t rattle_checksum(const uint8_t *bytes, size_t n);
 uint16_t plain_checksum(const uint8_t *bytes, size_t n);
@@ -96,3 +101,11 @@ struct difference rattle_clock_difference(struct date meter, struct date cabinet
 struct difference plain_clock_difference(struct date meter, struct date cabinet);
 struct told rattle_course(const uint8_t *calls, size_t n);
 struct told plain_course(const uint8_t *calls, size_t n);
+struct summed_f32 rattle_summary_f32(const uint8_t *body, size_t n, size_t k);
+struct summed_f32 plain_summary_f32(const uint8_t *body, size_t n, size_t k);
+struct summed_f64 rattle_summary_f64(const uint8_t *body, size_t n, size_t k);
+struct summed_f64 plain_summary_f64(const uint8_t *body, size_t n, size_t k);
+struct summed_u32 rattle_summary_u32(const uint8_t *body, size_t n, size_t k);
+struct summed_u32 plain_summary_u32(const uint8_t *body, size_t n, size_t k);
+struct summed_u64 rattle_summary_u64(const uint8_t *body, size_t n, size_t k);
+struct summed_u64 plain_summary_u64(const uint8_t *body, size_t n, size_t k);

@@ -232,6 +232,93 @@ static void make_descriptor(uint8_t *p, size_t n)
     put_be16(p + 2, 1), put_be16(p + 8, chance(4));
 }
 
+/* The kinds of a reading: the bytes and the bits of a value that a summary takes, and the largest such, of floats in 1/1024ths. */
+static const struct { const char *name; int bytes, bits; uint64_t top; } kinds[4] = {
+    {"read_f32", 4, 24, 0xFFFFFF}, {"read_f64", 8, 50, 0x3FFFFFFFFFFFF},
+    {"read_u32", 4, 32, 0xFFFFFFFE}, {"read_u64", 8, 64, 0xFFFFFFFFFFFFFFFE}};
+
+/* A number of so many bits. */
+static uint64_t number(int bits)
+{
+    uint64_t v = chance(0x80000000);
+    v = v << 31 | chance(0x80000000);
+    v = v << 31 | chance(0x80000000);
+    return bits ? v >> (64 - bits) : 0;
+}
+
+static void put_bits(uint8_t *p, int bytes, uint64_t bits) { for (int i = 0; i < bytes; i++) p[i] = bits >> 8 * i; }
+
+/* So many units of the kind: whole ones, or parts of 1. */
+static void put_units(uint8_t *p, int kind, uint64_t units, unsigned parts)
+{
+    float f = (float)units / parts;
+    double d = (double)units / parts;
+    uint32_t bits;
+    if (kind == 0) memcpy(&bits, &f, 4), units = bits;
+    if (kind == 1) memcpy(&units, &d, 8);
+    put_bits(p, kinds[kind].bytes, units);
+}
+
+/* The body of an archive reply with so many values, of which one in `absent` is absent, or none where that is 0; the others rise from `start`, each time by a
+   number of so many bits or, where that goes past the largest, by nothing or up to it. Answers how many bytes. */
+static size_t make_archive(uint8_t *p, int kind, size_t values, uint32_t absent, uint64_t start, int bits)
+{
+    struct date d = make_date();
+    uint64_t units = start, top = kinds[kind].top;
+    if (units > top) units = top;
+    put_bits(p, 4, (uint64_t)1 << chance(32));
+    memcpy(p + 4, &d, 6);
+    p += 10;
+    for (size_t i = 0; i < values; i++, p += kinds[kind].bytes) {
+        if (absent && !chance(absent)) { put_bits(p, kinds[kind].bytes, -1); continue; }
+        uint64_t more = number(bits);
+        units += more <= top - units ? more : chance(2) ? top - units : 0;
+        put_units(p, kind, units, 1024);
+    }
+    return 10 + values * kinds[kind].bytes;
+}
+
+/* Some value made another: one at an edge of what a float may be, one that fits, one with half a digit, any, absent, the next one with it in the next one's
+   place, or the same with a bit changed. */
+static void spoil_value(uint8_t *p, int kind, size_t values)
+{
+    static const uint64_t edges[2][24] = {
+        {0, 1, 0x7FFFFF, 0x800000, 0x3A000000, 0x3A7FFFFF, 0x3A800000, 0x3A800001, 0x3AC00000, 0x3B000000, 0x467FFFFE, 0x467FFFFF, 0x46800000, 0x46800001,
+         0x7F7FFFFF, 0x7F800000, 0x7F800001, 0x7FC00000, 0x7FFFFFFF, 0x80000000, 0xBF800000, 0xFF800000, 0xFFC00000, 0xFFFFFFFE},
+        {0, 1, 0xFFFFFFFFFFFFF, 0x10000000000000, 0x3F40000000000000, 0x3F4FFFFFFFFFFFFF, 0x3F50000000000000, 0x3F50000000000001, 0x3F58000000000000,
+         0x3F60000000000000, 0x426FFFFFFFFFFFF8, 0x426FFFFFFFFFFFFC, 0x4270000000000000, 0x4270000000000001, 0x7FEFFFFFFFFFFFFF, 0x7FF0000000000000,
+         0x7FF0000000000001, 0x7FF8000000000000, 0x7FFFFFFFFFFFFFFF, 0x8000000000000000, 0xBFF0000000000000, 0xFFF0000000000000, 0xFFF8000000000000,
+         0xFFFFFFFFFFFFFFFE}};
+    if (values == 0) return;
+    int bytes = kinds[kind].bytes, bits = chance(kinds[kind].bits + 1);
+    size_t at = chance(values);
+    uint8_t held[8];
+    p += 10 + bytes * at;
+    switch (chance(7)) {
+    case 0: put_bits(p, bytes, edges[bytes == 8][chance(24)]); break;
+    case 1: put_units(p, kind, number(bits), 1024); break;
+    case 2: put_units(p, kind, number(bits) | 1, 2048); break;
+    case 3: random_bytes(p, bytes); break;
+    case 4: put_bits(p, bytes, -1); break;
+    case 5: if (at + 1 < values) memcpy(held, p, bytes), memcpy(p, p + bytes, bytes), memcpy(p + bytes, held, bytes); break;
+    default: damage(p, bytes);
+    }
+}
+
+/* No mask of one bit, perhaps, or no date, or a date at an edge. */
+static void spoil_head(uint8_t *p)
+{
+    static const uint8_t highest[6] = {99, 12, 31, 23, 59, 59};
+    size_t at = chance(6);
+    switch (chance(5)) {
+    case 0: damage(p, 4); break;
+    case 1: random_bytes(p, 4); break;
+    case 2: memset(p + 4, 0xFF, 6); break;
+    case 3: damage(p + 4, 6); break;
+    default: p[4 + at] = chance(2) ? highest[at] + chance(2) : at == 2 ? 28 + chance(3) : 0;
+    }
+}
+
 static void differ(const char *what)
 {
     fprintf(stderr, "%s: Rattle and C answer differently\n", what);
@@ -433,6 +520,34 @@ static void check_course(const uint8_t *calls, unsigned *good)
     struct told a = rattle_course(calls, 4 * CALLS), b = plain_course(calls, 4 * CALLS);
     if (a.sum != b.sum || a.good != b.good) differ("turns");
     *good += a.good;
+}
+
+/* A summary of each kind, floats by their bits; answers how many values are present, and the refusal. */
+#define SAME(field) !memcmp(&a.field, &b.field, sizeof a.field)
+#define CHECK_SUMMARY(kind, number) \
+    static size_t check_##kind(const uint8_t *p, size_t n, size_t k, uint8_t *refused) \
+    { \
+        struct summed_##kind a = rattle_summary_##kind(p, n, k), b = plain_summary_##kind(p, n, k); \
+        if (!(SAME(refused) && SAME(place) && SAME(first) && SAME(first_place) && SAME(last) && SAME(last_place) && SAME(present) && SAME(step))) differ(kinds[number].name); \
+        *refused = a.refused; \
+        return a.present; \
+    }
+CHECK_SUMMARY(f32, 0)
+CHECK_SUMMARY(f64, 1)
+CHECK_SUMMARY(u32, 2)
+CHECK_SUMMARY(u64, 3)
+
+/* At an index that runs from 0 to 59, past the end of each kind, and at the last step or the one after it; `all`: at each of these, and far past the end. */
+static void check_summary(int kind, const uint8_t *p, size_t n, bool all, unsigned *answers)
+{
+    static size_t (*const check_kind[4])(const uint8_t *, size_t, size_t, uint8_t *) = {check_f32, check_f64, check_u32, check_u64};
+    static size_t next;
+    uint8_t refused;
+    size_t present = check_kind[kind](p, n, next++ % 60, &refused);
+    check_kind[kind](p, n, (present < 2 ? 0 : present - 2) + chance(2), &refused);
+    for (size_t k = 0; all && k < 60; k++) check_kind[kind](p, n, k, &refused);
+    if (all) check_kind[kind](p, n, (size_t)-1 / (1 + chance(9)), &refused);
+    answers[refused]++;
 }
 
 static int check(void)
@@ -647,6 +762,44 @@ __attribute__((noinline)) static int check_adi(void)
     return 0;
 }
 
+/* 250,000 archives of each kind, each at two indices and 5,000 of them at 61 more: 805,000 answers of each kind. By itself, too. */
+__attribute__((noinline)) static int check_summaries(void)
+{
+    static uint8_t p[1000], q[1000];
+    unsigned answers[4][256] = {{0}};
+    bool few = false;
+    for (int kind = 0; kind < 4; kind++)
+        for (int i = 0; i < 50000; i++) {
+            /* a good one, whose values may be absent; one to three of them spoilt, then more; the head of either spoilt; any length */
+            bool all = i % 50 == 0;
+            int bytes = kinds[kind].bytes, bits = kinds[kind].bits, rise = chance(2) ? (uint32_t)bits - 6 : chance(bits + 1);
+            size_t most = 235 / bytes, values = chance(3) ? chance(most + 1) : most;
+            uint32_t absent = chance(3) ? 0 : 1 + chance(9);
+            uint64_t start = number(chance(bits + 1));
+            size_t n = make_archive(p, kind, values, absent, start, rise);
+            check_summary(kind, p, n, all, answers[kind]);
+            memcpy(q, p, n);
+            for (int k = 0; k < 2; k++) {
+                for (int left = chance(3); left >= 0; left--) spoil_value(q, kind, values);
+                check_summary(kind, q, n, all, answers[kind]);
+            }
+            if (chance(2)) memcpy(q, p, n);
+            spoil_head(q);
+            check_summary(kind, q, n, all, answers[kind]);
+            make_archive(p, kind, 60, absent, start, rise);
+            n = chance(2) ? 236 + chance(20) : chance(3) ? 10 + bytes * chance(5) : chance(300);
+            check_summary(kind, p, n, all, answers[kind]);
+        }
+    fprintf(stderr, "and of archives: 250,000 of each kind, each at two steps and 5,000 at all:");
+    for (int kind = 0; kind < 4; kind++) {
+        unsigned *a = answers[kind];
+        fprintf(stderr, " %s %u accepted, 11 %u, 12 %u, 13 %u, 71 %u, 72 %u, 73 %u%s", kinds[kind].name, a[0], a[11], a[12], a[13], a[71], a[72], a[73], kind < 3 ? ";" : "\n");
+        few |= a[0] < 60000 || a[11] < 20000 || a[12] < 10000 || a[13] < 10000 || a[71] < 2000 || a[72] < 10000 || (kind < 2 && a[73] < 10000);
+    }
+    if (few) fprintf(stderr, "too few inputs of some answer\n");
+    return few;
+}
+
 #define BOTH(name, ...) (us ? rattle_##name(__VA_ARGS__) : plain_##name(__VA_ARGS__))
 
 /* Works on PDUs of ADI: n is how many groups there are, how many bytes, or which place. */
@@ -697,13 +850,29 @@ __attribute__((noinline)) static uint64_t adi_work(bool us, const char *work, si
     return sum;
 }
 
+/* Summaries of archives with n values, all of them present. */
+__attribute__((noinline)) static uint64_t summary_work(bool us, const char *work, size_t n, size_t reps)
+{
+    static uint8_t p[300];
+    int kind = (work[0] == 'u') * 2 + (work[1] == '6');
+    size_t all = make_archive(p, kind, n, 0, 1000000, 11);
+    uint64_t sum = 0;
+    switch (kind) {
+    case 0: while (reps--) sum += BOTH(summary_f32, p, all, n - 2).present; break;
+    case 1: while (reps--) sum += BOTH(summary_f64, p, all, n - 2).present; break;
+    case 2: while (reps--) sum += BOTH(summary_u32, p, all, n - 2).present; break;
+    default: while (reps--) sum += BOTH(summary_u64, p, all, n - 2).present;
+    }
+    return sum;
+}
+
 int main(int argc, char **argv)
 {
     static uint8_t p[17 * 400 + 10000], buffer[1000];
     static struct fields cards[400];
     static struct date dates[401];
     uint64_t sum = 0;
-    if (argc == 2) return check() || check_adi();
+    if (argc == 2) return check() || check_adi() || check_summaries();
     bool us = argv[1][0] == 'r';
     const char *work = argv[2];
     size_t n = atol(argv[3]), reps = atol(argv[4]);
@@ -723,6 +892,8 @@ int main(int argc, char **argv)
     }
     if (!strncmp(work, "adi-", 4)) {
         sum = adi_work(us, work + 4, n, reps);
+    } else if (!strncmp(work, "summary-", 8)) {
+        sum = summary_work(us, work + 8, n, reps);
     } else if (!strcmp(work, "checksum")) {
         random_bytes(p, n);
         while (reps--) sum += BOTH(checksum, p, n);

@@ -5,6 +5,7 @@ import adi
 import archive
 import card
 import clock
+import consumption
 import datagram
 import modbus
 import pulsar_body
@@ -28,7 +29,7 @@ def told(refusal, *values):
 
 
 def reader(function):
-    """A reader's answer is (number, fields or None); 9 has a count."""
+    """A reader's answer is (number, fields or None); 9 has a count, 72 and 73 have a place."""
     def answer(numbers, strings):
         refusal, fields = function(*numbers, *strings)
         return [refusal, *(fields or ())]
@@ -331,6 +332,7 @@ ACTS = {
     21: ("read_reply", [1, 10, 11, 12, 13, 15], read_reply_body),
     22: ("write_request_body", [1, 11, 12, 13, 17, 16], write_request_body),
     23: ("write_reply_body", [1, 11, 12, 13, 15, 17, 16], write_reply_body),
+    24: ("read_f32, read_f64, read_u32, read_u64", [11, 12, 13, 73, 72, 71], reader(consumption.read_summary)),
     30: ("read_rtu", [40, 41, 44], reader(modbus.read_rtu)),
     31: ("write_rtu", [17, 16], writer(modbus.write_rtu)),
     32: ("read_tcp", [40, 41, 42, 43], reader(modbus.read_tcp)),

@@ -1,15 +1,18 @@
-"""The reference against what it was not made from: printed traffic, published check values and functions, 01's edges, cards and file records by hand, python's calendar and CRC-32."""
+"""The reference against what it was not made from: printed traffic, published check values and functions, 01's edges, cards, file records and archives by hand,
+floats by their bits, python's calendar and CRC-32."""
 import calendar
 import datetime
 import itertools
 import random
 import re
+import struct
 import zlib
 from collections import Counter
 
 import adi
 import card
 import clock
+import consumption
 import datagram
 import modbus
 import pulsar_body
@@ -532,6 +535,108 @@ def any_replies():
             same("written again", adi.write_reply(list(map(len, groups)), b"".join(groups), bytes(len(reply))), (0, len(reply), reply))
 
 
+# 02, W-208, by hand: kind, values; first and its place, last and its place, how many are present, the steps before the zeros
+SUMMARIES = [
+    # 5, absent, 9
+    (0, "0000A040 FFFFFFFF 00001041", (0x40A00000, 1, 0x41100000, 3, 2, "00008040")),
+    (1, "0000000000001440 FFFFFFFFFFFFFFFF 0000000000002240", (0x4014000000000000, 1, 0x4022000000000000, 3, 2, "0000000000001040")),
+    (2, "05000000 FFFFFFFF 09000000", (5, 1, 9, 3, 2, "04000000")),
+    (3, "0500000000000000 FFFFFFFFFFFFFFFF 0900000000000000", (5, 1, 9, 3, 2, "0400000000000000")),
+    # 0, 1/1024, 1/1024 below the limit, and that again
+    (0, "00000000 0000803A FFFF7F46 FFFF7F46", (0, 1, 0x467FFFFF, 4, 4, "0000803A FEFF7F46 00000000")),
+    (1, "0000000000000000 000000000000503F F8FFFFFFFFFF6F42", (0, 1, 0x426FFFFFFFFFFFF8, 3, 3, "000000000000503F F0FFFFFFFFFF6F42")),
+    # 0 and the largest; one alone
+    (2, "FFFFFFFF 00000000 FEFFFFFF", (0, 2, 0xFFFFFFFE, 3, 2, "FEFFFFFF")),
+    (3, "0000000000000000 FEFFFFFFFFFFFFFF FFFFFFFFFFFFFFFF", (0, 1, 0xFFFFFFFFFFFFFFFE, 2, 2, "FEFFFFFFFFFFFFFF")),
+    (2, "FFFFFFFF 05000000 FFFFFFFF", (5, 2, 5, 2, 1, "")),
+]
+NO_SUMMARIES = [
+    (0, "", (71, None)), (3, "FFFFFFFFFFFFFFFF", (71, None)), (2, "FFFFFFFF FFFFFFFF", (71, None)), (2, "05000000 09000000 07000000", (72, (3,))),
+    (2, "05000000 FFFFFFFF 04000000", (72, (3,))), (0, "0000A040 00008040 00000080", (72, (2,))), (0, "0000A040 00000080 00008040", (73, (2,))),
+    (0, "00000080", (73, (1,))), (0, "FFFFFFFF 0000003A", (73, (2,))), (0, "00008046", (73, (1,))), (0, "0000807F", (73, (1,))), (0, "FEFFFFFF", (73, (1,))),
+    (1, "000000000000403F", (73, (1,))), (1, "FCFFFFFFFFFF6F42", (73, (1,))), (1, "0000000000007042", (73, (1,))), (1, "0100000000000000", (73, (1,))),
+]
+MASK_AND_DATE = bytes.fromhex("04000000 17021C0C1E1E")
+
+
+def archives_by_hand():
+    """02, W-208, both sides of its edges."""
+    for kind, values, (*told, steps) in SUMMARIES:
+        body, room = MASK_AND_DATE + bytes.fromhex(values), 28 * 8 if kind % 2 else 57 * 4
+        same(f"{values} of kind {kind}", consumption.read_summary(kind, body), (0, (*told, bytes.fromhex(steps).ljust(room, b"\x00"))))
+        same("a byte less", consumption.read_summary(kind, body[:-1]), (11, None))
+        same("two channels", consumption.read_summary(kind, b"\x05" + body[1:]), (12, None))
+        same("no date", consumption.read_summary(kind, body[:4] + b"\xFF" * 6 + body[10:]), (13, None))
+    for kind, values, due in NO_SUMMARIES:
+        same(f"{values} of kind {kind}", consumption.read_summary(kind, MASK_AND_DATE + bytes.fromhex(values)), due)
+
+
+# of each float: bits below its exponent, exponent of 1/1024, bits of the limit
+FLOATS = [(23, 117, 0x46800000), (52, 1013, 0x4270000000000000)]
+
+
+def taken_by_bits(kind, bits):
+    """02, W-208, in whole numbers: 0, or below the limit and with no bit set that tells less than 1/1024."""
+    digits, least, limit = FLOATS[kind]
+    exponent = bits >> digits
+    return bits == 0 or bits < limit and exponent >= least and bits % 2 ** (digits + least - exponent) == 0
+
+
+def floats():
+    """All exponents of 32 bits, many of 64, with either sign: each digit alone, all from it on, all below it, and any."""
+    rng = random.Random(208)
+    for kind, exponents in ((0, range(2 ** 9)), (1, [*range(3), *range(930, 1090), *range(2045, 2051), *range(3050, 3090), 4094, 4095])):
+        digits, width = FLOATS[kind][0], 8 if kind else 4
+        parts = [part for at in range(digits + 1) for part in (2 ** at % 2 ** digits, 2 ** digits - 2 ** at, 2 ** at - 1, rng.getrandbits(digits))]
+        for exponent, part in itertools.product(exponents, parts):
+            bits = exponent << digits | part
+            same(f"{bits:X} outside", consumption.outside(kind, bits.to_bytes(width, "little")), not taken_by_bits(kind, bits))
+
+
+# by the width, bits of six floats that are taken, in order, and of some that are not
+FLOAT_BITS = {
+    4: [0, 0x3A800000, 0x40A00000, 0x40E00000, 0x41100000, 0x467FFFFF, 1, 0x3A000000, 0x46800000, 0x7FC00000, 0x80000000, 0xC0A00000],
+    8: [0, 0x3F50000000000000, 0x4014000000000000, 0x401C000000000000, 0x4022000000000000, 0x426FFFFFFFFFFFF8, 1, 0x3F40000000000000, 0x4270000000000000,
+        0x7FF8000000000000, 0x8000000000000000, 0xC014000000000000],
+}
+
+
+def archives():
+    """The first place up to which not all that is present is taken and in order decides; the steps, added one by one to the first value, give all others."""
+    rng, seen = random.Random(208), set()
+    for _ in range(6000):
+        kind = rng.randrange(4)
+        form = struct.Struct("<" + "fdIQ"[kind])
+        absent, pool = 256 ** form.size - 1, FLOAT_BITS[form.size]
+        some = rng.choices(rng.choice((pool, pool[:6])), k=rng.randrange(9))
+        some = [rng.choice((bits, bits, bits, absent)) for bits in rng.choice((some, sorted(some), [absent] * len(some)))]
+        mask, month, more = rng.choice((4, 4, 4, 5)), rng.choice((2, 2, 2, 13)), bytes(rng.choice((0, 0, 0, 1)))
+        body = bytes([mask, 0, 0, 0, 23, month, 28, 12, 30, 30]) + b"".join(bits.to_bytes(form.size, "little") for bits in some) + more
+        refusal, told = consumption.read_summary(kind, body)
+        seen.add(refusal)
+
+        def in_order(count):
+            present = [bits for bits in some[:count] if bits != absent]
+            return present == sorted(present) and (kind > 1 or all(taken_by_bits(kind, bits) for bits in present))
+
+        wrong = next((place for place in range(1, len(some) + 1) if not in_order(place)), None)
+        places = [place for place, bits in enumerate(some, 1) if bits != absent]
+        if more or mask == 5 or month == 13:
+            same("the body's own", (refusal, told), (11 if more else 12 if mask == 5 else 13, None))
+        elif wrong:
+            same("the first place at fault", (refusal, told), (72 if kind > 1 or taken_by_bits(kind, some[wrong - 1]) else 73, (wrong,)))
+        elif not places:
+            same("nothing present", (refusal, told), (71, None))
+        else:
+            first, first_place, last, last_place, present, steps = told
+            same("places", (refusal, first_place, last_place, present), (0, places[0], places[-1], len(places)))
+            same("first and last", (first, last), (some[places[0] - 1], some[places[-1] - 1]))
+            values = [value for place in places for value in form.unpack(some[place - 1].to_bytes(form.size, "little"))]
+            added = [value for value, in form.iter_unpack(first.to_bytes(form.size, "little") + steps)]
+            same("steps that add up", list(itertools.accumulate(added)), values + values[-1:] * (232 // form.size - present))
+    same("the numbers that come", seen, {0, 11, 12, 13, 71, 72, 73})
+
+
 def dates():
     """Every year, month and day within the ranges and just beyond, beside python's calendar."""
     for year, month, day in itertools.product(range(101), range(14), range(33)):
@@ -555,7 +660,7 @@ def seconds():
 def check():
     for one in (checksums, crc32s, printed_frames, printed_sessions, counted_from_start, printed_datagrams, datagram_edges, texts, sent_and_received,
                 modbus_examples, functions_of_003, ascii_lengths, edges, on_its_way, agreed_part, lister, archive_cards, both_forms,
-                collector, tables, file_records, unjudged, descriptors, exchanges, any_requests, any_replies, dates, seconds):
+                collector, tables, file_records, unjudged, descriptors, exchanges, any_requests, any_replies, archives_by_hand, floats, archives, dates, seconds):
         one()
 
 

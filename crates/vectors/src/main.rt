@@ -15,6 +15,7 @@ mod receiver;
 mod replies;
 mod requests;
 mod say;
+mod summaries;
 mod tables;
 
 use wire::byte_at;
@@ -34,6 +35,7 @@ fn pulsar(act: u8, numbers: &[u8], bytes: &[u8], out: &mut [u8]) -> bool {
         14..=15 => collector::answer(act, numbers, bytes),
         20 | 22 => requests::answer(act, numbers, bytes, out),
         21 | 23 => replies::answer(act, numbers, bytes, out),
+        24 => summaries::answer(numbers, bytes),
         _ => say::unknown(act),
     }
 }
@@ -52,7 +54,7 @@ fn answer(act: u8, numbers: &[u8], bytes: &[u8], out: &mut [u8]) -> bool {
     match act {
         1..=3 | 9 | 61..=63 | 70 => ground::answer(act, numbers, bytes, out),
         4..=8 => readings::answer(act, numbers, bytes),
-        10..=23 => pulsar(act, numbers, bytes, out),
+        10..=24 => pulsar(act, numbers, bytes, out),
         30..=44 => controller(act, numbers, bytes, out),
         50..=51 | 53..=56 | 59 => cards::answer(act, numbers, bytes, out),
         52 | 57..=58 => listings::answer(act, numbers, bytes, out),

@@ -6,8 +6,9 @@ use Prim.Native.Nat.{ℕ, zero, suc}
 use native.Mathlib.Omega.{arith}
 use lib.Dec.{T}
 use Rattle.wire.specs.Refusal.{Rule, first, numbered}
-use Rattle.wire.specs.InTurn.{inTurn, Faultless, FirstFault, FirstInTurn}
-use Rattle.wire.proofs.Refusal.{first-skips, first-hits, none-first, first-is, is-first, numbered-append, passed, found}
+use Rattle.wire.specs.Answer.{answered}
+use Rattle.wire.specs.InTurn.{inTurn, firstFaulty, Faultless, FirstFault, FirstInTurn}
+use Rattle.wire.proofs.Refusal.{first-skips, first-hits, first-none, none-first, first-is, is-first, numbered-append, passed, found}
 
 module _ {A : Type 0} (rules : A → List Rule) (good : (x : A) → T (numbered (rules x))) where
   pub in-turn-numbered : (xs : List A) → T (numbered (inTurn rules xs))
@@ -64,3 +65,12 @@ module _ {A : Type 0} (rules : A → List Rule) (good : (x : A) → T (numbered 
 
   pub in-turn-law : (xs : List A) → FirstInTurn rules xs (first (inTurn rules xs))
   in-turn-law xs = ((λ n. (is-fault xs n, fault-is xs n)), none-faulty xs, faultless-none xs)
+
+  -- and the first faulty one is that one
+  pub first-faulty-is : (none : A) (xs : List A) (n : ℕ) (h : FirstFault rules xs (suc n)) → firstFaulty rules none xs ≡ h .1
+  unfolding firstFaulty
+  first-faulty-is none xs n h = ap (firstFaulty rules none) (h .3) ∙ go (h .0) (h .4)
+    where
+      go : (before : List A) → Faultless rules before → firstFaulty rules none (before ++ (h .1 ∷ h .2)) ≡ h .1
+      go [] f = ap (answered (λ n. h .1) (firstFaulty rules none (h .2))) (first-is (rules (h .1)) (suc n) (h .5))
+      go (x ∷ before) f = ap (answered (λ n. x) (firstFaulty rules none (before ++ (h .1 ∷ h .2)))) (first-none (rules x) (f .0)) ∙ go before (f .1)

@@ -3,12 +3,18 @@
 use Prim.Native.Nat.{ℕ, suc}
 use mathlib.Core.Path.{_≡_}
 use mathlib.Core.List.{List, [], _∷_, _++_}
-use Rattle.wire.specs.Refusal.{Rule, NoneHolds, FirstIs}
+use Rattle.wire.specs.Answer.{answered}
+use Rattle.wire.specs.Refusal.{Rule, first, NoneHolds, FirstIs}
 
 -- "then group by group"
 unfoldable pub inTurn : {A : Type 0} → (A → List Rule) → List A → List Rule
 inTurn rules [] = []
 inTurn rules (x ∷ xs) = rules x ++ inTurn rules xs
+
+-- the first that has a fault, and this one where none has
+unfoldable pub firstFaulty : {A : Type 0} → (A → List Rule) → A → List A → A
+firstFaulty rules none [] = none
+firstFaulty rules none (x ∷ xs) = answered (λ n. x) (firstFaulty rules none xs) (first (rules x))
 
 -- ---- what the law speaks of
 

@@ -1,0 +1,12 @@
+pub mod Bytes
+pub mod Values
+pub mod Bits
+pub mod Judging
+pub mod Body
+pub mod Exact
+pub mod Turn
+pub mod AddsUp
+pub mod Order
+pub mod AsRead
+pub mod Unique
+pub mod Numbers
