@@ -1,5 +1,7 @@
 // CRC-16 with the reflected polynomial A001, low bit first, no final change; it is sent low byte first. The LRC of Modbus ASCII. And the CRC-32 of
 // the SM160 datagram.
+#![tactic(auto)]
+
 ghost use Rattle.std.specs.Prelude.{◌≡◌, ◌+◌, ◌%◌};
 ghost use Rattle.checksum.specs.Crc.{CRC16, crc_bits, crc_byte, crc_from, crc};
 ghost use Rattle.checksum.specs.Crc32.{CRC32, crc32_from};

@@ -1,4 +1,6 @@
 // DATETIME: six numbers, six bytes, and whether they are a date. A caller refuses what is none with its own number, 13 or 53.
+#![tactic(auto)]
+
 ghost use Rattle.std.specs.Prelude.{◌≡◌};
 ghost use Rattle.std.proofs.lemmas.List.Edits.{sets};
 ghost use Rattle.wire.specs.Numbers.{field};

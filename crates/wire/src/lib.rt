@@ -1,5 +1,7 @@
 // Numbers read from bytes and written to them. Every reader is total: a byte past the end reads as 0. Every store is total: a byte
 // past the end is not stored. What each means is in specs/Numbers.antt.
+#![tactic(auto)]
+
 ghost use Rattle.std.specs.Prelude.{◌≡◌, ◌-◌, ◌%◌, ◌^◌, ◌≤◌, ◌<◌, get_or, set, take, drop};
 ghost use Rattle.std.proofs.lemmas.List.Edits.{sets};
 ghost use Rattle.wire.specs.Digits.{digit, digit_of};

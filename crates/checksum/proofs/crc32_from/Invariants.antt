@@ -1,0 +1,13 @@
+-- `checksum::crc32_from` meets its contract. The loop's invariant: the bytes that are left, after the remainder as it is, give the answer.
+use mathlib.Core.Path.{◌≡◌}
+use Prim.Native.Nat.{◌-◌, ◌≤◌}
+use lib.ListN.{length, drop}
+use Rattle.checksum.specs.Crc.{remainder}
+use Rattle.checksum.specs.Crc32.{CRC32, turned}
+use Rattle.checksum.proofs.crc32_from.Given as goal
+
+abbrev pub invariant-loop-i : goal.invariant-loop-i
+invariant-loop-i l = (l.i ≤ length l.bytes) × (remainder CRC32 l.c (drop l.i l.bytes) ≡ remainder CRC32 (turned l.crc) l.bytes)
+
+abbrev pub decreases-loop-i : goal.decreases-loop-i
+decreases-loop-i l = length l.bytes - l.i

@@ -1,0 +1,7 @@
+-- `date::is_no_date` meets its contract.
+use Rattle.date.specs.Date.{is_no_date}
+use Rattle.date.proofs.is_no_date.Goals as goal
+
+pub returns : goal.returns
+unfolding is_no_date
+returns c = cc
