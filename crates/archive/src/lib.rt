@@ -1,4 +1,6 @@
 // What an archive holds, and which archive a reading came from, with the numbers that archive requests and cards have for it.
+#![tactic(auto)]
+
 ghost use Rattle.std.specs.Prelude.{◌≡◌};
 ghost use Rattle.archive.specs.Archive.{type_from, type_number, source_from, source_number};
 

@@ -1,5 +1,7 @@
 // Fields of given widths in bits, packed one after the other into bytes, most significant bit first. The widths are the layout: the
 // reader and the writer go by the same list. What each means is in specs/Fields.antt.
+#![tactic(auto)]
+
 ghost use Rattle.std.specs.Prelude.{◌≡◌, ◌+◌, ◌*◌, ◌/◌, ◌%◌, ◌^◌, ◌<◌, get_or, take};
 ghost use Rattle.std.proofs.lemmas.List.Edits.{sets};
 ghost use Rattle.wire.specs.Numbers.{be, field};

@@ -1,4 +1,6 @@
 // How far off a meter's clock is. What it answers is in specs/.
+#![tactic(auto)]
+
 ghost use Rattle.std.specs.Prelude.{◌+◌, ◌-◌, ◌*◌, ◌≤◌, true, ◌≡◌};
 ghost use Rattle.date.specs.Date.{is_date};
 ghost use Rattle.clock.specs.Seconds.{days_of_months, days_of_years, seconds_since2000};

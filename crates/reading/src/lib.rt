@@ -1,5 +1,7 @@
 // A reading keeps its kind and all its bits. The float cases hold the bits too: no float is made from the pattern of a NaN here, and
 // all ones, which means absent, is one.
+#![tactic(auto)]
+
 pub mod mask;
 pub mod values;
 

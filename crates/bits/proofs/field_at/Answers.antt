@@ -1,5 +1,4 @@
 -- `bits::field_at` meets its contract.
--- Assumes nothing.
 use mathlib.Core.Path.{sym, ap, ap₂, ◌∙◌}
 use Prim.Native.Nat.{ℕ, ◌%◌, ◌^◌}
 use native.Mathlib.Nat.{zero-add}
@@ -7,19 +6,13 @@ use lib.ListN.{get_or}
 use Rattle.wire.specs.Numbers.{field}
 use Rattle.bits.specs.Bits.{of_bits, bits_in}
 use Rattle.bits.proofs.Fields.{value_of_lem}
-use borrow.Author.Rules.{rules}
-use Rattle.bits.proofs.field_at.Statement.{statement}
-use Rattle.bits.proofs.field_at.Tie as tie
+use Rattle.bits.proofs.field_at.Goals as goal
 
-returns : tie.Need-returns
+pub returns : goal.returns
 returns c =
-    let a = c.before.before.before.before.before.args in
+    let a = c.args in
     let bs = bits_in a.s.now in
     c.bits_at.ensures
     ∙ ap (λ (x : ℕ). x % 2 ^ 64)
-    (ap₂ (λ (at w : ℕ). of_bits (field bs at w)) c.before.before.place_of.ensures.0 c.before.byte_at.ensures
+    (ap₂ (λ (at w : ℕ). of_bits (field bs at w)) c.place_of.ensures.0 c.byte_at.ensures
     ∙ sym (value_of_lem a.widths.now 0 a.k bs ∙ ap (λ (at : ℕ). of_bits (field bs at (get_or a.widths.now a.k 0))) (zero-add _)))
-
-pub field-at-spec : {M : Type 1} → statement M
-field-at-spec =
-    tie.close (tie.spec (λ c κs. search rules) (λ c κs. search rules) (λ c. search rules) (λ c κs. search rules) returns)
