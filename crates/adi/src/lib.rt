@@ -9,7 +9,7 @@ ghost use Rattle.adi.specs.Descriptor.{contents_number, contents_from, bad_descr
 pub const FUNCTION: u8 = 0x14;
 
 // What a file holds.
-#[derive(Drop)]
+#[derive(Clone, Copy)]
 pub enum Contents {
     Events,
     Hourly,
@@ -17,7 +17,7 @@ pub enum Contents {
     Monthly,
 }
 
-#[derive(Drop)]
+#[derive(Clone, Copy)]
 pub struct Descriptor {
     // Of the descriptor itself.
     pub length: u16,
@@ -34,7 +34,7 @@ pub struct Descriptor {
     pub total: u32,
 }
 
-#[derive(Drop)]
+#[derive(Clone, Copy)]
 pub enum DescriptorRead {
     Descriptor(Descriptor),
     // The paper's number.

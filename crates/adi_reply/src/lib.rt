@@ -10,7 +10,7 @@ ghost use Rattle.adi_reply.specs.Reading.{not4to245, bad_count, not_even_from2, 
 ghost use Rattle.adi_reply.specs.Writing.{cut, total, bad_number, length_rules, judge_rules, WritesReply, WritesNoData};
 ghost use Rattle.adi_reply.specs.declared.ReplyRead.TheVariants.{Groups, Refused};
 
-#[derive(Drop)]
+#[derive(Clone, Copy)]
 pub enum ReplyRead {
     // How many.
     Groups(usize),

@@ -11,7 +11,7 @@ ghost use Rattle.adi_request.specs.Reading.{not_sevens, bad_count, bad_record, n
 ghost use Rattle.adi_request.specs.Writing.{given, bad_number, asked_rules, judge_rules, WritesRequest};
 
 // A group: so many registers of a record of a file.
-#[derive(Drop)]
+#[derive(Clone, Copy)]
 pub struct Asked {
     pub file: u16,
     pub record: u16,
@@ -19,7 +19,7 @@ pub struct Asked {
     pub length: u16,
 }
 
-#[derive(Drop)]
+#[derive(Clone, Copy)]
 pub enum RequestRead {
     // How many.
     Groups(usize),
@@ -27,7 +27,7 @@ pub enum RequestRead {
     Refused(u8),
 }
 
-#[derive(Drop)]
+#[derive(Clone, Copy)]
 pub enum AskedAt {
     Asked(Asked),
     // No such place.

@@ -5,7 +5,7 @@ ghost use Rattle.std.specs.Prelude.{◌≡◌};
 ghost use Rattle.archive.specs.Archive.{type_from, type_number, source_from, source_number};
 
 // What an archive holds.
-#[derive(Drop)]
+#[derive(Clone, Copy)]
 pub enum ArchiveKind {
     Hourly,
     Daily,
@@ -14,7 +14,7 @@ pub enum ArchiveKind {
 }
 
 // Where a reading came from: read as it stood, or out of an archive.
-#[derive(Drop)]
+#[derive(Clone, Copy)]
 pub enum Source {
     Current,
     Archive(ArchiveKind),

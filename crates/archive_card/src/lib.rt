@@ -16,13 +16,13 @@ use wire::Written;
 
 const WIDTHS: [u8; 12] = [27, 5, 7, 4, 5, 5, 6, 6, 2, 64, 3, 10];
 
-#[derive(Drop)]
+#[derive(Clone, Copy)]
 pub struct ArchiveCard {
     pub card: Card,
     pub source: Source,
 }
 
-#[derive(Drop)]
+#[derive(Clone, Copy)]
 pub enum ArchiveCardRead {
     Card(ArchiveCard),
     Refused(u8),

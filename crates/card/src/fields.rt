@@ -13,7 +13,7 @@ use reading::Kind;
 const FIELDS: [u8; 10] = [27, 5, 7, 4, 5, 5, 6, 6, 2, 64];
 
 // The ten fields as they stand on a card: the channel by its number, the value by its kind and bits.
-#[derive(Drop)]
+#[derive(Clone, Copy)]
 pub struct Fields {
     pub address: u32,
     pub channel: u8,

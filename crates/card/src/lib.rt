@@ -16,7 +16,7 @@ use wire::Written;
 
 const WIDTHS: [u8; 11] = [27, 5, 7, 4, 5, 5, 6, 6, 2, 64, 5];
 
-#[derive(Drop)]
+#[derive(Clone, Copy)]
 pub struct Card {
     pub address: u32,
     pub channel: u8,
@@ -24,7 +24,7 @@ pub struct Card {
     pub value: Reading,
 }
 
-#[derive(Drop)]
+#[derive(Clone, Copy)]
 pub enum CardRead {
     Card(Card),
     Refused(u8),

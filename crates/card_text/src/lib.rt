@@ -13,14 +13,14 @@ use date::DateTime;
 use wire::Written;
 
 // The forms of the card: of 17 bytes, and of 18, which says the archive.
-#[derive(Drop)]
+#[derive(Clone, Copy)]
 pub enum Form {
     Card,
     ArchiveCard,
 }
 
 // What a line is of.
-#[derive(Drop)]
+#[derive(Clone, Copy)]
 pub enum Entry {
     Card(Card),
     ArchiveCard(ArchiveCard),

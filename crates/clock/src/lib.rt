@@ -8,7 +8,7 @@ ghost use Rattle.clock.specs.Clock.{bad_meter, bad_cabinet, clock_difference};
 
 use date::{DateTime, is_date};
 
-#[derive(Drop)]
+#[derive(Clone, Copy)]
 pub enum Difference {
     // The meter's date less the cabinet's: negative when the meter is slow.
     Seconds(i64),

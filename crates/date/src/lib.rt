@@ -7,7 +7,7 @@ ghost use Rattle.wire.specs.Numbers.{field};
 ghost use Rattle.date.specs.Months.{february, days_of};
 ghost use Rattle.date.specs.Date.{date_bytes, date_of, is_date, is_no_date, within};
 
-#[derive(Drop)]
+#[derive(Clone, Copy)]
 pub struct DateTime {
     // From 2000.
     pub year: u8,

@@ -9,27 +9,27 @@ ghost use Rattle.modbus.specs.Envelope.{message, bytes_of, WritesEnvelope};
 ghost use Rattle.modbus.specs.Rtu.{rtu, rtu_data, rtu_pdu, rtu_rules, read_rtu, bad_crc};
 ghost use Rattle.modbus.specs.Tcp.{tcp, tcp_data, tcp_pdu, tcp_rules, read_tcp, bad_protocol, bad_length};
 
-#[derive(Drop)]
+#[derive(Clone, Copy)]
 pub struct Rtu {
     pub address: u8,
     pub function: u8,
 }
 
-#[derive(Drop)]
+#[derive(Clone, Copy)]
 pub enum RtuRead {
     Rtu(Rtu),
     // The paper's number.
     Refused(u8),
 }
 
-#[derive(Drop)]
+#[derive(Clone, Copy)]
 pub struct Tcp {
     pub transaction: u16,
     pub unit: u8,
     pub function: u8,
 }
 
-#[derive(Drop)]
+#[derive(Clone, Copy)]
 pub enum TcpRead {
     Tcp(Tcp),
     // The paper's number.

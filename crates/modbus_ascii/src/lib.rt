@@ -16,14 +16,14 @@ const RETURN: u8 = 13;
 const FEED: u8 = 10;
 
 // Length counts the data, which stands over the front of the output.
-#[derive(Drop)]
+#[derive(Clone, Copy)]
 pub struct Ascii {
     pub address: u8,
     pub function: u8,
     pub length: usize,
 }
 
-#[derive(Drop)]
+#[derive(Clone, Copy)]
 pub enum AsciiRead {
     Ascii(Ascii),
     // The paper's number.

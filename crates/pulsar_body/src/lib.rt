@@ -9,7 +9,7 @@ ghost use Rattle.pulsar_body.specs.Body.{other_than, bad_values, bad_length, bod
 use date::DateTime;
 
 // The value bytes that follow a head.
-#[derive(Drop)]
+#[derive(Clone, Copy)]
 pub enum Values {
     Nothing,
     // One value a channel of a mask.

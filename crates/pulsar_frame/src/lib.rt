@@ -10,7 +10,7 @@ ghost use Rattle.pulsar_frame.specs.Layout.{payload_of};
 ghost use Rattle.pulsar_frame.specs.Reading.{missing, refusal, read_at_meter, read_at_master};
 ghost use Rattle.pulsar_frame.specs.Writing.{WritesRequest, WritesReply};
 
-#[derive(Drop)]
+#[derive(Clone, Copy)]
 pub struct Frame {
     pub address: u32,
     pub function: u8,
@@ -19,7 +19,7 @@ pub struct Frame {
     pub len: usize,
 }
 
-#[derive(Drop)]
+#[derive(Clone, Copy)]
 pub enum FrameRead {
     Frame(Frame),
     // 9: a frame still on its way, and how many of its bytes lack.

@@ -2,19 +2,19 @@
 ghost use Rattle.std.specs.Prelude.{◌≡◌};
 ghost use Rattle.pulsar_line.specs.Collect.{fresh, unfit, pushed, silenced};
 
-#[derive(Drop)]
+#[derive(Clone, Copy)]
 pub struct Collector {
     pub bytes: [u8; 255],
     pub count: usize,
 }
 
-#[derive(Drop)]
+#[derive(Clone, Copy)]
 pub enum Answer {
     Done,
     Refused(u8),
 }
 
-#[derive(Drop)]
+#[derive(Clone, Copy)]
 pub struct Pushed {
     pub answer: Answer,
     pub state: Collector,
@@ -22,7 +22,7 @@ pub struct Pushed {
 
 // What silence hands over: bytes, of which the first `count` were collected, and how many of the frame that they begin lack. Where it
 // refuses, none.
-#[derive(Drop)]
+#[derive(Clone, Copy)]
 pub struct Handed {
     pub answer: Answer,
     pub bytes: [u8; 255],

@@ -13,13 +13,13 @@ ghost use Rattle.pulsar_reply.specs.Writing.{writing_rules};
 use date::DateTime;
 use wire::Written;
 
-#[derive(Drop)]
+#[derive(Clone, Copy)]
 pub struct ArchiveReply {
     pub mask: u32,
     pub first: DateTime,
 }
 
-#[derive(Drop)]
+#[derive(Clone, Copy)]
 pub enum Reply {
     // 00: the error byte.
     Error(u8),
@@ -41,14 +41,14 @@ pub enum Reply {
     ParameterWritten,
 }
 
-#[derive(Drop)]
+#[derive(Clone, Copy)]
 pub enum ReplyRead {
     Reply(Reply),
     Refused(u8),
 }
 
 // The functions that a reply may have.
-#[derive(Drop)]
+#[derive(Clone, Copy)]
 pub enum Function {
     Error,
     Channels,

@@ -14,7 +14,7 @@ use archive::ArchiveKind;
 use date::DateTime;
 use wire::Written;
 
-#[derive(Drop)]
+#[derive(Clone, Copy)]
 pub struct ArchiveRequest {
     pub mask: u32,
     pub kind: ArchiveKind,
@@ -22,7 +22,7 @@ pub struct ArchiveRequest {
     pub last: DateTime,
 }
 
-#[derive(Drop)]
+#[derive(Clone, Copy)]
 pub enum Request {
     // 01: the mask.
     ReadChannels(u32),
@@ -40,14 +40,14 @@ pub enum Request {
     WriteParameter(u16),
 }
 
-#[derive(Drop)]
+#[derive(Clone, Copy)]
 pub enum RequestRead {
     Request(Request),
     Refused(u8),
 }
 
 // The functions that a request may have.
-#[derive(Drop)]
+#[derive(Clone, Copy)]
 pub enum Function {
     ReadChannels,
     WriteChannels,

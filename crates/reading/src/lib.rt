@@ -8,7 +8,7 @@ pub mod values;
 ghost use Rattle.std.specs.Prelude.{◌≡◌};
 ghost use Rattle.reading.specs.Reading.{width_of, number_of, kind_from, reading_of, bits_of, kind_of, is_absent, same, other_length, read_value};
 
-#[derive(Drop)]
+#[derive(Clone, Copy)]
 pub enum Kind {
     F32,
     F64,
@@ -16,7 +16,7 @@ pub enum Kind {
     U64,
 }
 
-#[derive(Drop)]
+#[derive(Clone, Copy)]
 pub enum Reading {
     F32(u32),
     F64(u64),
@@ -24,7 +24,7 @@ pub enum Reading {
     U64(u64),
 }
 
-#[derive(Drop)]
+#[derive(Clone, Copy)]
 pub enum ValueRead {
     Value(Reading),
     Refused(u8),

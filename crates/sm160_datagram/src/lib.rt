@@ -9,7 +9,7 @@ ghost use Rattle.sm160_datagram.specs.Writing.{WritesDatagram};
 
 use wire::Written;
 
-#[derive(Drop)]
+#[derive(Clone, Copy)]
 pub enum DatagramRead {
     // Its type; options and data are `options_of` and `data_of`.
     Datagram(u8),

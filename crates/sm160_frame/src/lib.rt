@@ -19,14 +19,14 @@ pub const END: u16 = 4;
 pub const LARGEST: usize = 240;
 
 // Part size and CRC16 are made where a frame is written and judged where it is read; the part is `part_of`.
-#[derive(Drop)]
+#[derive(Clone, Copy)]
 pub struct Fields {
     pub session: u16,
     pub offset: u32,
     pub flags: u16,
 }
 
-#[derive(Drop)]
+#[derive(Clone, Copy)]
 pub enum FrameRead {
     Frame(Fields),
     Refused(u8),

@@ -20,7 +20,7 @@ const NAME_AT: usize = 16;
 
 const MESSAGE_AT: usize = 4;
 
-#[derive(Drop)]
+#[derive(Clone, Copy)]
 pub enum RequestRead {
     // From which place of the file on, and how many bytes of it (all ones for all); the name is `name_of`.
     Request { offset: u64, size: u64 },
@@ -28,7 +28,7 @@ pub enum RequestRead {
     Refused(u8),
 }
 
-#[derive(Drop)]
+#[derive(Clone, Copy)]
 pub enum ReplyRead {
     // The status; the message is `message_of`, and what the file holds `sm160_datagram::data_of`.
     Reply(u32),

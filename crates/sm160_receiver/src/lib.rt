@@ -37,7 +37,7 @@ ghost use Rattle.sm160_receiver.specs.Receiving.{
 
 // A session, the largest part that was agreed on, whether a file is under way, and how many of its bytes are held. The count is as wide as a
 // length, so that no sum wraps.
-#[derive(Drop)]
+#[derive(Clone, Copy)]
 pub struct Receiver {
     pub session: u16,
     pub limit: usize,
@@ -45,7 +45,7 @@ pub struct Receiver {
     pub count: usize,
 }
 
-#[derive(Drop)]
+#[derive(Clone, Copy)]
 pub enum Opening {
     // The state for the first call.
     Ready(Receiver),
@@ -53,7 +53,7 @@ pub enum Opening {
     Refused(u8),
 }
 
-#[derive(Drop)]
+#[derive(Clone, Copy)]
 pub enum Answer {
     // The bytes held now.
     Held(usize),
@@ -63,7 +63,7 @@ pub enum Answer {
     Refused(u8),
 }
 
-#[derive(Drop)]
+#[derive(Clone, Copy)]
 pub struct Received {
     pub answer: Answer,
     pub state: Receiver,

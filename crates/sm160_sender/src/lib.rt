@@ -6,7 +6,7 @@ ghost use Rattle.sm160_sender.specs.Sending.{part_at, flags_for, bad_file, past_
 
 use sm160_frame::{END, START};
 
-#[derive(Drop)]
+#[derive(Clone, Copy)]
 pub enum Sent {
     // The frame's length, and the place of the next.
     Frame { length: usize, next: usize },

@@ -14,20 +14,20 @@ ghost use Rattle.sm160_text.specs.Files.{or_zero, or_else, meaning};
 ghost use Rattle.sm160_text.specs.declared.Optional.TheVariants as O;
 
 // A text's place in the file: its first character, and the place after its last.
-#[derive(Drop)]
+#[derive(Clone, Copy)]
 pub struct Span {
     pub start: usize,
     pub end: usize,
 }
 
 // The text of an attribute that a record need not have.
-#[derive(Drop)]
+#[derive(Clone, Copy)]
 pub enum Optional {
     Absent,
     Text(Span),
 }
 
-#[derive(Drop)]
+#[derive(Clone, Copy)]
 pub struct ArchiveRecord {
     pub r: Optional,
     pub s: Span,
@@ -38,7 +38,7 @@ pub struct ArchiveRecord {
     pub t: Optional,
 }
 
-#[derive(Drop)]
+#[derive(Clone, Copy)]
 pub struct DeviceRecord {
     pub d: Span,
     pub k: Span,
@@ -46,13 +46,13 @@ pub struct DeviceRecord {
 }
 
 // A place of a file, line and column from 1.
-#[derive(Drop)]
+#[derive(Clone, Copy)]
 pub struct Position {
     pub line: usize,
     pub column: usize,
 }
 
-#[derive(Drop)]
+#[derive(Clone, Copy)]
 pub enum ArchiveAnswer {
     Record(ArchiveRecord),
     End,
@@ -60,7 +60,7 @@ pub enum ArchiveAnswer {
     Refused(u8, Position),
 }
 
-#[derive(Drop)]
+#[derive(Clone, Copy)]
 pub enum DeviceAnswer {
     Record(DeviceRecord),
     End,
@@ -68,20 +68,20 @@ pub enum DeviceAnswer {
 }
 
 // The next place is that of the next line, and the same place again at the end and with a refusal.
-#[derive(Drop)]
+#[derive(Clone, Copy)]
 pub struct ArchiveRead {
     pub answer: ArchiveAnswer,
     pub next: usize,
 }
 
-#[derive(Drop)]
+#[derive(Clone, Copy)]
 pub struct DeviceRead {
     pub answer: DeviceAnswer,
     pub next: usize,
 }
 
 // The attributes of an archive's record.
-#[derive(Drop)]
+#[derive(Clone, Copy)]
 pub enum Attribute {
     R,
     S,
@@ -93,14 +93,14 @@ pub enum Attribute {
 }
 
 // What an attribute means, absent or not: a text of the file, or the text 0.
-#[derive(Drop)]
+#[derive(Clone, Copy)]
 pub enum Meaning {
     Text(Span),
     Zero,
 }
 
 // How far a line was read: number 0 and the next place, or a refusal's number and the place of the first character that is not the expected one.
-#[derive(Drop)]
+#[derive(Clone, Copy)]
 struct Seen {
     number: u8,
     place: usize,
@@ -163,7 +163,7 @@ pub fn text_end(s: &[u8], p: usize) -> usize
     e
 }
 
-#[derive(Drop)]
+#[derive(Clone, Copy)]
 struct Attributed {
     seen: Seen,
     text: Span,
@@ -199,7 +199,7 @@ fn is_here(s: &[u8], p: usize, c: u8) -> bool
     is_at(s, p + 1, c)
 }
 
-#[derive(Drop)]
+#[derive(Clone, Copy)]
 struct Optioned {
     seen: Seen,
     text: Optional,
@@ -248,7 +248,7 @@ fn line_end(s: &[u8], was: Seen) -> Seen
 }
 
 // A line as far as it was read, and its record where it was read whole.
-#[derive(Drop)]
+#[derive(Clone, Copy)]
 struct ArchiveLine {
     seen: Seen,
     record: ArchiveRecord,
@@ -294,7 +294,7 @@ fn archive_line(file: &[u8], place: usize) -> ArchiveLine
     }
 }
 
-#[derive(Drop)]
+#[derive(Clone, Copy)]
 struct DeviceLine {
     seen: Seen,
     record: DeviceRecord,

@@ -18,7 +18,7 @@ ghost use Rattle.turns.specs.Table.{
 ghost use Rattle.turns.specs.Calls.{add_rules, slot_rules, turn_rules, added, changed, removed, marked, cleared, turned};
 
 // Slot k stands at the place k - 1; an empty slot has address 0.
-#[derive(Drop)]
+#[derive(Clone, Copy)]
 pub struct Table {
     pub addresses: [u32; 32],
     pub due: [bool; 32],
@@ -26,38 +26,38 @@ pub struct Table {
     pub last: usize,
 }
 
-#[derive(Drop)]
+#[derive(Clone, Copy)]
 pub enum Adding {
     Slot(usize),
     Refused(u8),
 }
 
-#[derive(Drop)]
+#[derive(Clone, Copy)]
 pub struct Added {
     pub answer: Adding,
     pub table: Table,
 }
 
-#[derive(Drop)]
+#[derive(Clone, Copy)]
 pub enum Changing {
     Done,
     Refused(u8),
 }
 
-#[derive(Drop)]
+#[derive(Clone, Copy)]
 pub struct Changed {
     pub answer: Changing,
     pub table: Table,
 }
 
-#[derive(Drop)]
+#[derive(Clone, Copy)]
 pub enum Turning {
     // The slot, and its address.
     Slot(usize, u32),
     Refused(u8),
 }
 
-#[derive(Drop)]
+#[derive(Clone, Copy)]
 pub struct Turned {
     pub answer: Turning,
     pub table: Table,

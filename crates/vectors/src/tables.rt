@@ -4,7 +4,7 @@ use turns::{Added, Adding, Changed, Changing, Table, Turned, Turning};
 use wire::{byte_at, le32_at, rest};
 
 // What a call answers, with 0 for what it does not, and the table after it.
-#[derive(Drop)]
+#[derive(Clone, Copy)]
 struct Outcome {
     number: u8,
     slot: usize,

@@ -145,7 +145,7 @@ fn write(numbers: &[u8], bytes: &[u8], out: &mut [u8]) -> Written {
 
 // A walk through a file: how it ended, with line and column of a reader's refusal and otherwise 0 for both; how many records there were before, the
 // place after them, and how many bytes of the output they take.
-#[derive(Drop)]
+#[derive(Clone, Copy)]
 struct Walked {
     ended: bool,
     number: u8,

@@ -8,7 +8,7 @@ ghost use Rattle.wire.specs.Digits.{digit, digit_of};
 ghost use Rattle.wire.specs.Numbers.{le, of_le, be, of_be, bcd, of_bcd, is_bcd, field, of_bcd_byte, bcd_byte, is_bcd_byte};
 
 // What a writer answers: how many bytes it wrote over the front of its output, or the paper's number, and then it wrote none.
-#[derive(Drop)]
+#[derive(Clone, Copy)]
 pub enum Written {
     Length(usize),
     Refused(u8),

@@ -1,6 +1,6 @@
 -- `bits::eight_at` meets its contract. The loop's invariant: v is the bits of the first k bytes.
 use mathlib.Core.Path.{◌≡◌, refl, ap, ◌∙◌}
-use Prim.Native.Nat.{ℕ, ◌-◌, ◌*◌}
+use Prim.Native.Nat.{ℕ, ◌*◌}
 use native.Mathlib.Omega.{arith}
 use Rattle.wire.specs.Numbers.{number, field}
 use Rattle.bits.specs.Bits.{of_bits, bits_in}

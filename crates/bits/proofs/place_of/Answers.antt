@@ -1,6 +1,6 @@
 -- `bits::place_of` meets its contract. The loop's invariant: the bits of the first i fields, of at most 255 each.
 use mathlib.Core.Path.{◌≡◌, refl, sym, ap₂, ap, ◌∙◌}
-use Prim.Native.Nat.{ℕ, ◌+◌, ◌-◌}
+use Prim.Native.Nat.{ℕ, ◌+◌}
 use native.Mathlib.Omega.{arith}
 use lib.ListN.{take}
 use Rattle.bits.specs.Fields.{total}

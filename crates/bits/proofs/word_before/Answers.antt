@@ -1,5 +1,4 @@
 -- `bits::word_before` meets its contract. The loop's invariant: v, and after it the bits of the fields from the i-th on, are those before the place.
-use Prim.Native.Nat.{◌-◌}
 use Rattle.bits.proofs.Write.{before_none, before_more, before_part, before_all}
 use Rattle.bits.proofs.word_before.Goals as goal
 

@@ -1,6 +1,5 @@
 -- `checksum::checksum_from` meets its contract. The loop's invariant: the bytes that are left, after the remainder as it is, give the answer.
 use mathlib.Core.Path.{refl, ◌∙◌, sym}
-use Prim.Native.Nat.{◌-◌}
 use native.Mathlib.Omega.{arith}
 use Rattle.checksum.specs.Crc.{CRC16, crc_bits}
 use Rattle.checksum.specs.Table.{fours}

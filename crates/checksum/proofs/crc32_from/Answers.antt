@@ -1,6 +1,5 @@
 -- `checksum::crc32_from` meets its contract. The loop's invariant: the bytes that are left, after the remainder as it is, give the answer.
 use mathlib.Core.Path.{refl, ap, ◌∙◌, sym}
-use Prim.Native.Nat.{◌-◌}
 use native.Mathlib.Omega.{arith}
 use Rattle.checksum.specs.Crc.{crc_bits}
 use Rattle.checksum.specs.Crc32.{CRC32, turned, crc32_from}

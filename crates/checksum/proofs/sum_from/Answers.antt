@@ -1,6 +1,5 @@
 -- `checksum::sum_from` meets its contract. The loop's invariant: the bytes that are left, after the sum as it is, give the answer.
 use mathlib.Core.Path.{refl, ◌∙◌, sym}
-use Prim.Native.Nat.{◌-◌}
 use native.Mathlib.Omega.{arith}
 use Rattle.checksum.proofs.Sums.{sum_turn, sum_last}
 use Rattle.checksum.proofs.sum_from.Goals as goal

@@ -1,6 +1,5 @@
 -- `wire::put_all` meets its contract. The loop's invariant: the first i bytes of the part that has room are stored.
 use mathlib.Core.Path.{refl, ◌∙◌}
-use Prim.Native.Nat.{◌-◌}
 use native.Mathlib.Omega.{arith}
 use lib.ListN.{length-set}
 use Rattle.wire.proofs.Writing.{sets_more, sets_all, sets_part, part_fits}
