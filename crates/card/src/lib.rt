@@ -1,4 +1,6 @@
 // The reading card: 17 bytes, most significant bit first. The widths of its fields are its layout.
+#![tactic(auto)]
+
 pub mod fields;
 
 ghost use Rattle.std.specs.Prelude.{◌≡◌};
