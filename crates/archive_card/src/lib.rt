@@ -1,5 +1,7 @@
 // The card that says which archive it came from: 18 bytes, the fields of every card, then the archive kind and spare bits; and cards moved
 // from one form to the other.
+#![tactic(auto)]
+
 ghost use Rattle.std.specs.Prelude.{◌≡◌};
 ghost use Rattle.std.proofs.lemmas.List.Edits.{sets};
 ghost use Rattle.wire.specs.Refusal.{first};
