@@ -1,6 +1,14 @@
 // The lister of new cards, of 18 bytes, which say the archive.
-use card_text::Form;
+#![tactic(auto)]
 
-fn main() {
-    lister::list(Form::ArchiveCard);
+use card_text::Form;
+use lister::Streams;
+
+fn main(rt: HostRuntime) {
+    let streams = Streams {
+        input: rt.stdin(),
+        output: rt.stdout(),
+        errors: rt.stderr(),
+    };
+    lister::list(streams, Form::ArchiveCard);
 }
