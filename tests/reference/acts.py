@@ -14,7 +14,6 @@ import pulsar_line
 import read_file
 import readings
 import sm160
-import text_files
 import turns
 from cases.making import changed
 from crc import crc16, crc32
@@ -312,44 +311,6 @@ def write_no_data(count, length, _, output):
     return adi.write_no_data(count, length, output)
 
 
-def text_lines(texts):
-    """Each ended by a line feed."""
-    return b"".join(text + b"\n" for text in texts)
-
-
-def next_line(form):
-    """0 and the place as it is given for the end; 1, the place after the record and those of each text, 0 and 0 for an absent one, and then what they mean."""
-    def answer(numbers, strings):
-        [place], [file] = numbers, strings
-        refusal, found = text_files.next_line(form, file, place)
-        if refusal:
-            return [refusal, *found]
-        if found is None:
-            return told(0, 0, place)
-        after, texts = found
-        return told(0, 1, after, *(at for places in texts for at in places or (0, 0)), text_lines(text_files.meaning(form, file, texts)))
-    return answer
-
-
-def write_device(first, second, texts, output):
-    """The lengths of the first and the second text, and the three texts as one."""
-    return text_files.write_device([texts[:first], texts[first:first + second], texts[first + second:]], output)
-
-
-def read_all(form):
-    """How many records there are and the place where the end is met, or how many there are before a refusal; and the CRC-32 of what their texts mean."""
-    def answer(numbers, strings):
-        refusal, where, place, records = text_files.read_all(form, *strings)
-        crc = crc32(b"".join(map(text_lines, records)))
-        return [refusal, *where, len(records), crc] if refusal else [0, len(records), place, crc]
-    return answer
-
-
-def copy_devices(numbers, strings):
-    refusal, where, count, output = text_files.copy_devices(*strings)
-    return [refusal, *where, count, output]
-
-
 # act: name, the refusal numbers that it can give, its answer
 ACTS = {
     1: ("checksum_from", [], checksum_from),
@@ -425,10 +386,4 @@ ACTS = {
     97: ("read_descriptor", [84], reader(adi.read_descriptor)),
     98: ("exchange in RTU", [40, 41, 44, 10, 80, 81, 82, 83, 16], writer(of_two(adi.exchange_rtu))),
     99: ("exchange in TCP", [40, 41, 42, 43, 10, 80, 81, 82, 83, 16], writer(of_two(adi.exchange_tcp))),
-    100: ("next_record_plain", [90, 91, 92, 93], next_line(text_files.ARCHIVE)),
-    101: ("next_device_plain", [90, 91, 92, 93], next_line(text_files.DEVICES)),
-    102: ("write_device", [92, 16], writer(write_device)),
-    103: ("a whole archive", [90, 91, 92, 93], read_all(text_files.ARCHIVE)),
-    104: ("a whole device list", [90, 91, 92, 93], read_all(text_files.DEVICES)),
-    105: ("a device list copied", [90, 91, 92, 93, 16], copy_devices),
 }

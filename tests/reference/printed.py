@@ -6,9 +6,6 @@ FILE_REQUEST: the third, as the paper also prints it before it is cut.
 MODBUS_PACKETS: these, the paper's "Modbus Next" and its log-in packets.
 MODBUS_LINES: RTU lines of public texts on Modbus.
 ASCII_LINES: ASCII lines of such texts.
-SENT_FILE: the text file that the last of DATAGRAMS brings.
-DEVICE_FILE, ARCHIVE_FILE: the examples of the SM160 paper's text files (001, 3.2.2 and 3.2.3), their lines ended as those of SENT_FILE are.
-DEVICE_FORM, ARCHIVE_FORM: the lines that the paper describes them by.
 """
 
 
@@ -99,67 +96,3 @@ MODBUS_LINES = packets("""\
 01 03 00 00 00 0A C5 CD""")
 
 ASCII_LINES = [b":F7031389000A60\r\n", b":1103006B00037E\r\n"]
-
-# after the fragment's length, and before the fragment of length 0
-SENT_FILE = DATAGRAMS[3][17:-14]
-
-DEVICE_FILE = b"""\
-<r D="dev$1" K="24" S="310879" />
-<r D="dev$2" K="101" S="5947911" />
-<r D="self" K="128" S="101" />
-"""
-
-ARCHIVE_FILE = rb"""<r S="20130111000000000000" N="dev$1\r$0\fix\import\a\e\AI" V="931.3975" E="931.3975" T="0" />
-<r S="20130111000000000000" N="dev$1\r$0\fix\export\a\e\AI" V="0.153" E="0.153" T="0" />
-<r S="20130111000000000000" N="dev$1\r$0\fix\import\r\e\AI" V="144.045" E="144.045" T="0" />
-<r S="20130111000000000000" N="dev$1\r$0\fix\export\r\e\AI" V="1336.7315" E="1336.7315" T="0" />
-<r S="20130111000000000000" N="dev$1\r$1\fix\import\a\e\AI" V="618.277" E="618.277" T="0" />
-<r S="20130111000000000000" N="dev$1\r$1\fix\export\a\e\AI" V="0.1515" E="0.1515" T="0" />
-<r S="20130111000000000000" N="dev$1\r$1\fix\import\r\e\AI" V="89.206" E="89.206" T="0" />
-<r S="20130111000000000000" N="dev$1\r$1\fix\export\r\e\AI" V="896.0705" E="896.0705" T="0" />
-<r S="20130111000000000000" N="dev$1\r$2\fix\import\a\e\AI" V="313.1205" E="313.1205" T="0" />
-<r S="20130111000000000000" N="dev$1\r$2\fix\export\a\e\AI" V="0.0015" E="0.0015" T="0" />
-<r S="20130111000000000000" N="dev$1\r$2\fix\import\r\e\AI" V="54.839" E="54.839" T="0" />
-<r S="20130111000000000000" N="dev$1\r$2\fix\export\r\e\AI" V="440.661" E="440.661" T="0" />
-<r S="20130111000000000000" N="dev$1\r$3\fix\import\a\e\AI" V="0" E="0" T="0" />
-<r S="20130111000000000000" N="dev$1\r$3\fix\export\a\e\AI" V="0" E="0" T="0" />
-<r S="20130111000000000000" N="dev$1\r$3\fix\import\r\e\AI" V="0" E="0" T="0" />
-<r S="20130111000000000000" N="dev$1\r$3\fix\export\r\e\AI" V="0" E="0" T="0" />
-<r S="20130111000000000000" N="dev$1\r$4\fix\import\a\e\AI" V="0" E="0" T="0" />
-<r S="20130111000000000000" N="dev$1\r$4\fix\export\a\e\AI" V="0" E="0" T="0" />
-<r S="20130111000000000000" N="dev$1\r$4\fix\import\r\e\AI" V="0" E="0" T="0" />
-<r S="20130111000000000000" N="dev$1\r$4\fix\export\r\e\AI" V="0" E="0" T="0" />
-<r S="20130111000000000000" N="dev$1\dt$30\import\a\e\AI" V="0.049" E="0.049" />
-<r S="20130111000000000000" N="dev$1\dt$30\export\a\e\AI" V="0" E="0" />
-<r S="20130111000000000000" N="dev$1\dt$30\import\r\e\AI" V="0" E="0" />
-<r S="20130111000000000000" N="dev$1\dt$30\export\r\e\AI" V="0.068" E="0.068" />
-<r S="20130111000747048391" N="self\GPRS\State\DI" V="0" E="1170" />
-<r S="20130111000752107153" N="self\GPRS\Traffic\RX\AI" V="0" E="1170" />
-<r S="20130111000752107275" N="self\GPRS\Traffic\TX\AI" V="0" E="1170" />
-<r S="20130111000754486338" N="self\GPRS\SimN\AI" V="2" E="1171" />
-<r S="20130111000945008383" N="self\GPRS\State\DI" V="0" E="1171" />
-<r S="20130111000950067046" N="self\GPRS\Traffic\RX\AI" V="0" E="1171" />
-<r S="20130111000950067169" N="self\GPRS\Traffic\TX\AI" V="0" E="1171" />
-<r S="20130111000952326238" N="self\GPRS\SimN\AI" V="2" E="1172" />
-<r S="20130111001140837884" N="self\GPRS\State\DI" V="0" E="1172" />
-<r S="20130111001145896670" N="self\GPRS\Traffic\RX\AI" V="0" E="1172" />
-<r S="20130111001145896793" N="self\GPRS\Traffic\TX\AI" V="0" E="1172" />
-<r S="20130111001148236238" N="self\GPRS\SimN\AI" V="2" E="1173" />
-<r S="20130111001336697910" N="self\GPRS\State\DI" V="0" E="1173" />
-<r S="20130111001341756574" N="self\GPRS\Traffic\RX\AI" V="0" E="1173" />
-<r S="20130111001341756696" N="self\GPRS\Traffic\TX\AI" V="0" E="1173" />
-<r S="20130111001344096244" N="self\GPRS\SimN\AI" V="2" E="1174" />
-<r S="20130111001532499796" N="self\GPRS\State\DI" V="0" E="1174" />
-<r S="20130111001537557354" N="self\GPRS\Traffic\RX\AI" V="0" E="1174" />
-<r S="20130111001537557479" N="self\GPRS\Traffic\TX\AI" V="0" E="1174" />
-<r S="20130111001539806221" N="self\GPRS\SimN\AI" V="2" E="1175" />
-<r S="20130111001716776356" N="dev$2\EVD" V="1357863436" E="1357863436" C="2006" />
-"""
-
-DEVICE_FORM = """\
-<r D="Префикс данных" K="Тип прибора" S="Серийный номер" />
-""".encode("cp1251")
-
-ARCHIVE_FORM = """\
-<r [R="Штамп времени"] S="Штамп времени" N="Имя параметра" V="Число" E="Число" [C="Целое число"] [T="Целое число"] />
-""".encode("cp1251")

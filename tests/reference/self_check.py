@@ -1,5 +1,5 @@
-"""The reference against what it was not made from: printed traffic and files, published check values and functions, 01's edges, cards, file records, archives and
-lines of text by hand, floats by their bits, lines of text by templates, python's calendar and CRC-32."""
+"""The reference against what it was not made from: printed traffic, published check values and functions, 01's edges, cards, file records and archives by hand,
+floats by their bits, python's calendar and CRC-32."""
 import calendar
 import datetime
 import itertools
@@ -21,14 +21,12 @@ import pulsar_line
 import read_file
 import readings
 import sm160
-import text_files
 import turns
 from crc import crc16, crc32, low_byte_first
 from dates import is_date
 from digits import digit, digit_of
 from lrc import lrc
-from printed import (ARCHIVE_FILE, ARCHIVE_FORM, ASCII_LINES, DATAGRAMS, DEVICE_FILE, DEVICE_FORM, FILE_REQUEST, FRAMES, MODBUS_LINES, MODBUS_PACKETS,
-                     SENT_FILE)
+from printed import ASCII_LINES, DATAGRAMS, FILE_REQUEST, FRAMES, MODBUS_LINES, MODBUS_PACKETS
 
 CARD = bytes.fromhex("00 00 00 20 00 21 00 00 40 00 00 00 00 00 00 00 A0")
 LISTING = "address;channel;time;kind;bits\n00000001;1;2000-01-01 00:00:00;2;0000000000000005\n"
@@ -639,141 +637,6 @@ def archives():
     same("the numbers that come", seen, {0, 11, 12, 13, 71, 72, 73})
 
 
-def printed_files():
-    """02, W-209, and 001, 3.2."""
-    same("the file's length, before it and after it", (len(SENT_FILE), DATAGRAMS[3][15:17], DATAGRAMS[3][-14:-12]), (214, b"\xD6\x00", b"\x00\x00"))
-    stamps, names = ["20130122000051524279", "20130122000056581716", "20130122000056581833"], ["State\\DI", "Traffic\\RX\\AI", "Traffic\\TX\\AI"]
-    same("its records", text_files.read_all(text_files.ARCHIVE, SENT_FILE),
-         (0, None, 214, [[text.encode() for text in (stamp, stamp, "self\\GPRS\\" + name, "0", "416", "0", "0")] for stamp, name in zip(stamps, names)]))
-    refusal, _, place, records = text_files.read_all(text_files.ARCHIVE, ARCHIVE_FILE)
-    same("the archive", (refusal, place, len(records)), (0, len(ARCHIVE_FILE), 45))
-    same("its first record", records[0], [b"20130111000000000000"] * 2 + [rb"dev$1\r$0\fix\import\a\e\AI", b"931.3975", b"931.3975", b"0", b"0"])
-    same("its last record", records[-1], [b"20130111001716776356"] * 2 + [rb"dev$2\EVD", b"1357863436", b"1357863436", b"2006", b"0"])
-    devices = [[b"dev$1", b"24", b"310879"], [b"dev$2", b"101", b"5947911"], [b"self", b"128", b"101"]]
-    same("the device list", text_files.read_all(text_files.DEVICES, DEVICE_FILE), (0, None, 101, devices))
-    same("copied", text_files.copy_devices(DEVICE_FILE, bytes(102)), (0, (), 3, DEVICE_FILE + b"\x00"))
-    same("copied into a byte too few", text_files.copy_devices(DEVICE_FILE, bytes(100)), (16, (), 2, DEVICE_FILE[:70] + bytes(30)))
-    [described] = text_files.read_all(text_files.DEVICES, DEVICE_FORM)[3]
-    same("how it is described", [text.decode("cp1251") for text in described], ["Префикс данных", "Тип прибора", "Серийный номер"])
-    same("how an archive is described", text_files.next_line(text_files.ARCHIVE, ARCHIVE_FORM, 0), (91, (1, 4)))
-
-
-# 02, W-209, by hand: the byte after ^ is the first that is not as it must be; 0421, 041A and 0422 are the Cyrillic letters that look like C, K and T
-WRONG_LINES = [
-    (text_files.ARCHIVE, [
-        (90, "^\n"), (90, "^ <r"), (90, "<^"), (90, "<^R S"), (91, "<r^"), (91, "<r^r S"), (91, "<r^S="), (91, "<r^\tS"), (91, "<r ^ S"), (91, "<r ^/>\n"),
-        (91, "<r ^N"), (91, "<r ^s"), (91, "<r ^["), (91, "<r S^ ="), (91, "<r S^\""), (92, "<r S=^2"), (92, "<r S=^"), (92, '<r S="^\n"'), (92, '<r S="2 />^\n'),
-        (92, '<r S="2^'), (91, '<r S="2"^N="n"'), (91, '<r S="2"^"'), (91, '<r S="2" ^R="1"'), (91, '<r R="1" ^R="1"'), (91, '<r R="1" ^N="n"'),
-        (91, '<r S="2" N="n" V="3" ^/>\n'), (91, '<r S="2" N="n" V="3" ^C="5"'), (93, '<r S="2" N="n" V="3" E="4"^/>\n'),
-        (93, '<r S="2" N="n" V="3" E="4"^T="6" />\n'), (93, '<r S="2" N="n" V="3" E="4" ^>\n'), (93, '<r S="2" N="n" V="3" E="4" ^\u0421="5" />\n'),
-        (91, '<r S="2" N="n" V="3" E="4" ^c="5" />\n'), (91, '<r S="2" N="n" V="3" E="4" ^E="4" />\n'), (91, '<r S="2" N="n" V="3" E="4" T="6" ^C="5" />\n'),
-        (91, '<r S="2" N="n" V="3" E="4" C="5" ^C="5" />\n'), (91, '<r S="2" N="n" V="3" E="4" C^ ="5" />\n'), (92, '<r S="2" N="n" V="3" E="4" C=^5'),
-        (93, '<r S="2" N="n" V="3" E="4" /^\n'), (93, '<r S="2" N="n" V="3" E="4" />^\r\n'), (93, '<r S="2" N="n" V="3" E="4" />^'),
-        (93, '<r S="2" N="n" V="3" E="4" T="6" />^<r'),
-    ]),
-    (text_files.DEVICES, [
-        (90, "^\n"), (90, "^r"), (90, "<^\n"), (91, "<r^/>\n"), (91, "<r ^S"), (91, '<r D="1" ^S="3"'), (91, '<r D="1" ^\u041A="2"'), (91, '<r D="1" K="2" ^/>\n'),
-        (92, '<r D="1" K=^2'), (92, '<r D="1" K="2" S="3^\n'), (93, '<r D="1" K="2" S="3"^\n'), (93, '<r D="1" K="2" S="3" ^ />\n'),
-        (91, '<r D="1" K="2" S="3" ^T="6" />\n'), (91, '<r D="1" K="2" S="3" ^s'), (93, '<r D="1" K="2" S="3" ^\u0422="6" />\n'),
-        (93, '<r D="1" K="2" S="3" />^ \n'), (93, '<r D="1" K="2" S="3" />^'),
-    ]),
-]
-
-
-def lines_by_hand():
-    """Alone, after two good lines, and from within a line."""
-    for form, lines in WRONG_LINES:
-        good = text_files.line_bytes(form, [b"1"] * len(form.letters))
-        for due, text in lines:
-            at, wrong = text.index("^"), text.replace("^", "").encode("cp1251")
-            same(f"{text!r}", text_files.next_line(form, wrong, 0), (due, (1, at + 1)))
-            same(f"{text!r} in line 3", text_files.next_line(form, good * 2 + wrong, 2 * len(good)), (due, (3, at + 1)))
-            same(f"{text!r} in column 4", text_files.next_line(form, b"\n..." + wrong, 4), (due, (2, at + 4)))
-            same(f"{text!r} as a whole", text_files.read_all(form, good + wrong), (due, (2, at + 1), len(good), [[b"1"] * len(form.letters)]))
-            if form == text_files.DEVICES:
-                same(f"{text!r} in a copy", text_files.copy_devices(good + wrong, bytes(len(good))), (due, (2, at + 1), 1, good))
-        for place in (len(good), len(good) + 1, 2 ** 64 - 1):
-            same(f"{place} is the end", text_files.next_line(form, good, place), (0, None))
-        same("the last line feed", text_files.next_line(form, good, len(good) - 1), (90, (1, len(good))))
-    for texts, due in (([b"1", b'2"', b"3"], 92), ([b"1", b"2", b"\n3"], 92), ([b'"', b"", b""], 92), ([b"\r", b"'", b"<"], 0), ([b"", b"", b""], 0)):
-        line = text_files.line_bytes(text_files.DEVICES, texts)
-        output = bytes(len(line)) + b"\x5A"
-        same(f"{texts} written", text_files.write_device(texts, output), (due, None, output) if due else (0, len(line), line + b"\x5A"))
-        same(f"{texts} written into a byte too few", text_files.write_device(texts, line[1:]), (due or 16, None, line[1:]))
-
-
-def template(letters):
-    """Of a line with these attributes: what must come, and the number where it does not."""
-    attributes = [[(b" ", 91), (letter, 91), (b"=", 91), (b'"', 92), (b'[^"\n]*', 92), (b'"', 92)] for letter in letters]
-    return [(b"<", 90), (b"r", 90), *itertools.chain(*attributes), (b" ", 93), (b"/", 93), (b">", 93), (b"\n", 93), (b"", 0)]
-
-
-def fitted(letters, file, place):
-    """How far a template fits, and the number and the piece of it that does not."""
-    pieces, nested = template(letters), b""
-    for piece, _ in reversed(pieces[:-1]):
-        nested = b"(" + piece + nested + b")?"
-    found = re.compile(nested).match(file, place)
-    piece, number = pieces[sum(group is not None for group in found.groups())]
-    return found.end(), number, piece
-
-
-def by_templates(form, file, place):
-    """What is read by each choice of attributes: the one that fits furthest decides and, of two, the one that is at its end."""
-    if place >= len(file):
-        return 0, None
-    choices = [[letter for letter in form.letters if letter not in absent]
-               for count in range(len(form.optional) + 1) for absent in itertools.combinations(form.optional, count)]
-    (at, number, piece), letters = max(((fitted(letters, file, place), letters) for letters in choices), key=lambda fit: fit[0][:2])
-    if number == 0:
-        spans = dict(zip(letters, (each.span(1) for each in re.compile(b'"([^"]*)"').finditer(file, place, at))))
-        return 0, (at, [spans.get(letter) for letter in form.letters])
-    lines = file[:at].split(b"\n")
-    return 91 if piece == b"/" and re.match(b"[A-Za-z]", file[at:]) else number, (len(lines), len(lines[-1]) + 1)
-
-
-def lines_by_templates():
-    """Lines of any attributes, mostly in order, with up to two bytes replaced, left out or put in."""
-    rng, seen = random.Random(209), set()
-    for _ in range(8000):
-        form = rng.choice((text_files.ARCHIVE, text_files.DEVICES))
-        letters = [letter for letter in form.letters if letter not in form.optional or rng.randrange(2)]
-        if rng.randrange(4) == 0:
-            letters.insert(rng.randrange(len(letters) + 1), rng.choice([*form.letters, b"X", b"c"]))
-        line = b"<r" + b"".join(b" " + letter + b'="' + bytes(rng.choices(b"0/> <r=\r\xC0", k=rng.randrange(3))) + b'"' for letter in letters) + b" />\n"
-        before = rng.choice((b"", line, b"x", b"\n" + line[:9]))
-        for _ in range(rng.randrange(3)):
-            at, byte = rng.randrange(len(line)), bytes([rng.choice(b'<r SNVECTDKx="/>\n\r\t\x00\xFF')])
-            line = rng.choice((line[:at] + byte + line[at + 1:], line[:at] + byte + line[at:], line[:at] + line[at + 1:]))
-        file = before + rng.choice((line, line + before, line[:rng.randrange(len(line) + 1)]))
-        got = text_files.next_line(form, file, len(before))
-        seen.add((form == text_files.ARCHIVE, got[0]))
-        same(f"{file} from {len(before)}", got, by_templates(form, file, len(before)))
-    same("the numbers that come", seen, set(itertools.product((False, True), (0, 90, 91, 92, 93))))
-
-
-def written_and_read():
-    """Any texts, of lines one after another; what is absent means 0, or what S means."""
-    rng = random.Random(209)
-    for form in (text_files.ARCHIVE, text_files.DEVICES):
-        for _ in range(300):
-            records = [[None if letter in form.optional and rng.randrange(2) else rng.randbytes(rng.randrange(6)).translate(None, b'"\n') for letter in form.letters]
-                       for _ in range(rng.randrange(5))]
-            lines = [text_files.line_bytes(form, texts) for texts in records]
-            file, place, met = b"".join(lines), 0, []
-            while place < len(file):
-                refusal, (after, places) = text_files.next_line(form, file, place)
-                met.append([each and file[each[0]:each[1]] for each in places])
-                same("a line of the file", (refusal, file[place:after]), (0, lines[len(met) - 1]))
-                place = after
-            same("the records that were written", met, records)
-            meant = [[text if text is not None else texts[1] if at == 0 else b"0" for at, text in enumerate(texts)] for texts in records]
-            same("what they mean", text_files.read_all(form, file), (0, None, len(file), meant))
-            if form == text_files.DEVICES:
-                same("written one by one", b"".join(text_files.write_device(texts, bytes(60))[2].rstrip(b"\x00") for texts in records), file)
-                same("copied", text_files.copy_devices(file, bytes(len(file)) + b"\x5A"), (0, (), len(records), file + b"\x5A"))
-
-
 def dates():
     """Every year, month and day within the ranges and just beyond, beside python's calendar."""
     for year, month, day in itertools.product(range(101), range(14), range(33)):
@@ -797,8 +660,7 @@ def seconds():
 def check():
     for one in (checksums, crc32s, printed_frames, printed_sessions, counted_from_start, printed_datagrams, datagram_edges, texts, sent_and_received,
                 modbus_examples, functions_of_003, ascii_lengths, edges, on_its_way, agreed_part, lister, archive_cards, both_forms,
-                collector, tables, file_records, unjudged, descriptors, exchanges, any_requests, any_replies, archives_by_hand, floats, archives, printed_files,
-                lines_by_hand, lines_by_templates, written_and_read, dates, seconds):
+                collector, tables, file_records, unjudged, descriptors, exchanges, any_requests, any_replies, archives_by_hand, floats, archives, dates, seconds):
         one()
 
 

@@ -2,21 +2,30 @@
 // printed; then the reply of session 2 with its offsets counted from its START as a host must count them, at a receiver that was opened with less,
 // and from a receiver at 141; and the edges that are run. One line for each answer, and after the completion the file that stands in the buffer
 // and what it says.
-use libc::{STDIN_FILENO, STDOUT_FILENO};
+#![tactic(auto)]
+
 use sm160_frame::FrameRead;
 use sm160_read_file::{ReplyRead, RequestRead};
 use sm160_receiver::{Answer, Opening, Receiver};
+use std::io::{Read, Stdin, Stdout};
 use wire::Written;
 
-fn line(word: &[u8]) {
-    io::write_all(STDOUT_FILENO, word);
-    io::write_all(STDOUT_FILENO, b"\n");
+// Whether the bytes were written.
+fn put(to: Stdout, bytes: &[u8]) -> bool {
+    to.write_all(bytes).is_ok()
 }
 
-fn say(word: &[u8], n: u64) {
-    io::write_all(STDOUT_FILENO, word);
-    io::print_decimal(STDOUT_FILENO, n);
-    io::write_all(STDOUT_FILENO, b"\n");
+fn line(to: Stdout, word: &[u8]) {
+    put(to, word);
+    put(to, b"\n");
+}
+
+fn say(to: Stdout, word: &[u8], n: u64) {
+    let mut digits = [0u8; 20];
+    let k = io::decimal(n, &mut digits);
+    put(to, word);
+    put(to, &digits[..k]);
+    put(to, b"\n");
 }
 
 // A byte as text, a point where it is none.
@@ -24,45 +33,47 @@ fn shown(b: u8) -> u8 {
     if (b' ' <= b) & (b <= b'~') { b } else { b'.' }
 }
 
-fn show_byte(b: u8) {
-    io::print_hex(STDOUT_FILENO, b as u64, 2);
-    io::write_all(STDOUT_FILENO, b" ");
+fn show_byte(to: Stdout, b: u8) {
+    let mut digits = [0u8; 16];
+    let k = io::hex(b as u64, 2, &mut digits);
+    put(to, &digits[..k]);
+    put(to, b" ");
 }
 
 // Up to 16 bytes: in hexadecimal, then as text.
-fn show_line(s: &[u8]) {
+fn show_line(to: Stdout, s: &[u8]) {
     let mut text = [b' '; 16];
     let mut i = 0;
     while i < s.len() {
-        show_byte(s[i]);
+        show_byte(to, s[i]);
         wire::put(&mut text, i, shown(s[i]));
         i += 1;
     }
-    io::write_all(STDOUT_FILENO, b" ");
-    line(wire::front(&text, s.len()));
+    put(to, b" ");
+    line(to, wire::front(&text, s.len()));
 }
 
 // Bytes, 16 a line.
-fn show(s: &[u8]) {
+fn show(to: Stdout, s: &[u8]) {
     let mut i = 0;
     while i < s.len() {
-        show_line(wire::front(wire::rest(s, i), 16));
+        show_line(to, wire::front(wire::rest(s, i), 16));
         i += 16;
     }
 }
 
-fn tell(answer: Answer) {
+fn tell(to: Stdout, answer: Answer) {
     match answer {
-        Answer::Held(n) => say(b"held ", n as u64),
-        Answer::Complete(n) => say(b"complete ", n as u64),
-        Answer::Refused(n) => say(b"refused ", n as u64),
+        Answer::Held(n) => say(to, b"held ", n as u64),
+        Answer::Complete(n) => say(to, b"complete ", n as u64),
+        Answer::Refused(n) => say(to, b"refused ", n as u64),
     }
 }
 
-fn turn(state: Receiver, frame: &[u8], buffer: &mut [u8]) -> Receiver {
+fn turn(to: Stdout, state: Receiver, frame: &[u8], buffer: &mut [u8]) -> Receiver {
     let r = sm160_receiver::receive(state, frame, buffer);
     let answer = r.answer;
-    tell(answer);
+    tell(to, answer);
     r.state
 }
 
@@ -91,14 +102,14 @@ fn rebase(frame: &[u8], start: u32, out: &mut [u8]) -> usize {
     }
 }
 
-fn turn_rebased(state: Receiver, frame: &[u8], buffer: &mut [u8]) -> Receiver {
+fn turn_rebased(to: Stdout, state: Receiver, frame: &[u8], buffer: &mut [u8]) -> Receiver {
     let mut out = [0u8; 252];
     let n = rebase(frame, 73, &mut out);
-    turn(state, wire::front(&out, n), buffer)
+    turn(to, state, wire::front(&out, n), buffer)
 }
 
 // The same, with the receiver given by its plain fields.
-fn turn_plain(state: Receiver, frame: &[u8], buffer: &mut [u8]) -> Receiver {
+fn turn_plain(to: Stdout, state: Receiver, frame: &[u8], buffer: &mut [u8]) -> Receiver {
     let mut out = [0u8; 252];
     let n = rebase(frame, 73, &mut out);
     let r = sm160_receiver::receive_plain(
@@ -110,7 +121,7 @@ fn turn_plain(state: Receiver, frame: &[u8], buffer: &mut [u8]) -> Receiver {
         buffer,
     );
     let answer = r.answer;
-    tell(answer);
+    tell(to, answer);
     r.state
 }
 
@@ -118,12 +129,12 @@ fn turn_plain(state: Receiver, frame: &[u8], buffer: &mut [u8]) -> Receiver {
 const AGREED: usize = 68;
 
 // Where it is not opened, a state that each call refuses with 20.
-fn opened(session: u16, largest: usize) -> Receiver {
+fn opened(to: Stdout, session: u16, largest: usize) -> Receiver {
     let opening = sm160_receiver::open(session, largest);
     match opening {
         Opening::Ready(state) => state,
         Opening::Refused(n) => {
-            say(b"refused ", n as u64);
+            say(to, b"refused ", n as u64);
             Receiver {
                 session,
                 limit: 0,
@@ -155,38 +166,38 @@ fn as_lent(buffer: &[u8]) -> bool {
     true
 }
 
-fn tell_stored(buffer: &[u8]) {
+fn tell_stored(to: Stdout, buffer: &[u8]) {
     if as_lent(buffer) {
-        line(b"nothing stored");
+        line(to, b"nothing stored");
     } else {
-        line(b"stored");
+        line(to, b"stored");
     }
 }
 
 // Session 1: the agreement on the frame's size, asked for and replied.
-fn agreement(asked: &[u8], replied: &[u8]) {
-    line(b"session 1 as printed");
+fn agreement(to: Stdout, asked: &[u8], replied: &[u8]) {
+    line(to, b"session 1 as printed");
     let mut buffer = [7u8; 318];
-    let a = turn(opened(1, AGREED), asked, &mut buffer);
-    turn(a, replied, &mut buffer);
-    tell_stored(&buffer);
+    let a = turn(to, opened(to, 1, AGREED), asked, &mut buffer);
+    turn(to, a, replied, &mut buffer);
+    tell_stored(to, &buffer);
 }
 
 // Session 2: the request for a file in two frames, and the four of its reply.
-fn as_printed(request: &[u8], first: &[u8], second: &[u8], third: &[u8], last: &[u8]) {
-    line(b"session 2 as printed");
+fn as_printed(to: Stdout, request: &[u8], first: &[u8], second: &[u8], third: &[u8], last: &[u8]) {
+    line(to, b"session 2 as printed");
     let mut buffer = [7u8; 318];
-    let a = turn(opened(2, AGREED), wire::front(request, 80), &mut buffer);
-    let b = turn(a, wire::rest(request, 80), &mut buffer);
-    let c = turn(b, first, &mut buffer);
-    let d = turn(c, second, &mut buffer);
-    let e = turn(d, third, &mut buffer);
-    turn(e, last, &mut buffer);
-    tell_stored(&buffer);
+    let a = turn(to, opened(to, 2, AGREED), wire::front(request, 80), &mut buffer);
+    let b = turn(to, a, wire::rest(request, 80), &mut buffer);
+    let c = turn(to, b, first, &mut buffer);
+    let d = turn(to, c, second, &mut buffer);
+    let e = turn(to, d, third, &mut buffer);
+    turn(to, e, last, &mut buffer);
+    tell_stored(to, &buffer);
 }
 
 // What the request of two frames asks for.
-fn asked_for(request: &[u8]) {
+fn asked_for(to: Stdout, request: &[u8]) {
     let mut bytes = [0u8; 73];
     wire::put_all(
         &mut bytes,
@@ -201,116 +212,134 @@ fn asked_for(request: &[u8]) {
     let read = sm160_read_file::read_request(&bytes);
     match read {
         RequestRead::Request { offset, size } => {
-            say(b"asks from ", offset);
-            line(sm160_read_file::name_of(&bytes));
+            say(to, b"asks from ", offset);
+            line(to, sm160_read_file::name_of(&bytes));
         }
-        RequestRead::Refused(n) => say(b"refused ", n as u64),
+        RequestRead::Refused(n) => say(to, b"refused ", n as u64),
     }
 }
 
 // What the reply says, and how many bytes it brings.
-fn tell_reply(bytes: &[u8]) {
+fn tell_reply(to: Stdout, bytes: &[u8]) {
     let read = sm160_read_file::read_reply(bytes);
     match read {
         ReplyRead::Reply(status) => {
-            say(b"status ", status as u64);
-            line(sm160_read_file::message_of(bytes));
-            say(b"brings ", sm160_datagram::data_of(bytes).len() as u64);
+            say(to, b"status ", status as u64);
+            line(to, sm160_read_file::message_of(bytes));
+            say(to, b"brings ", sm160_datagram::data_of(bytes).len() as u64);
         }
-        ReplyRead::Refused(n) => say(b"refused ", n as u64),
+        ReplyRead::Refused(n) => say(to, b"refused ", n as u64),
     }
 }
 
-fn counted_from_start(first: &[u8], second: &[u8], third: &[u8], last: &[u8]) {
-    line(b"counted from START, then the last again, then the first alone");
+fn counted_from_start(to: Stdout, first: &[u8], second: &[u8], third: &[u8], last: &[u8]) {
+    line(to, b"counted from START, then the last again, then the first alone");
     let mut buffer = [0u8; 318];
-    let a = turn_rebased(opened(2, AGREED), first, &mut buffer);
-    let b = turn_rebased(a, second, &mut buffer);
-    let c = turn_rebased(b, third, &mut buffer);
-    let d = turn_rebased(c, last, &mut buffer);
-    show(wire::front(&buffer, 245));
-    tell_reply(wire::front(&buffer, 245));
-    let e = turn_rebased(d, last, &mut buffer);
-    turn_plain(e, first, &mut buffer);
+    let a = turn_rebased(to, opened(to, 2, AGREED), first, &mut buffer);
+    let b = turn_rebased(to, a, second, &mut buffer);
+    let c = turn_rebased(to, b, third, &mut buffer);
+    let d = turn_rebased(to, c, last, &mut buffer);
+    show(to, wire::front(&buffer, 245));
+    tell_reply(to, wire::front(&buffer, 245));
+    let e = turn_rebased(to, d, last, &mut buffer);
+    turn_plain(to, e, first, &mut buffer);
 }
 
-fn above_the_limit(first: &[u8], last: &[u8]) {
-    line(b"at a receiver that was opened with 67, and at one with 241");
+fn above_the_limit(to: Stdout, first: &[u8], last: &[u8]) {
+    line(to, b"at a receiver that was opened with 67, and at one with 241");
     let mut buffer = [0u8; 318];
-    let a = turn_rebased(opened(2, AGREED - 1), first, &mut buffer);
-    turn_rebased(a, last, &mut buffer);
-    turn_rebased(opened(2, 241), first, &mut buffer);
+    let a = turn_rebased(to, opened(to, 2, AGREED - 1), first, &mut buffer);
+    turn_rebased(to, a, last, &mut buffer);
+    turn_rebased(to, opened(to, 2, 241), first, &mut buffer);
 }
 
-fn from_141(second: &[u8], third: &[u8], last: &[u8]) {
-    line(b"at 141, to the end of the buffer, and the last again; then with one byte less of it");
+fn from_141(to: Stdout, second: &[u8], third: &[u8], last: &[u8]) {
+    line(to, b"at 141, to the end of the buffer, and the last again; then with one byte less of it");
     let mut buffer = [0u8; 318];
-    let a = turn(at(141), second, &mut buffer);
-    let b = turn(a, third, &mut buffer);
-    let c = turn(b, last, &mut buffer);
-    turn(c, last, &mut buffer);
+    let a = turn(to, at(141), second, &mut buffer);
+    let b = turn(to, a, third, &mut buffer);
+    let c = turn(to, b, last, &mut buffer);
+    turn(to, c, last, &mut buffer);
     let mut short = [0u8; 317];
-    turn(c, last, &mut short);
+    turn(to, c, last, &mut short);
 }
 
-fn start_again(first: &[u8], second: &[u8]) {
-    line(b"START over a file under way, then a refused START, and the file goes on");
+fn start_again(to: Stdout, first: &[u8], second: &[u8]) {
+    line(to, b"START over a file under way, then a refused START, and the file goes on");
     let mut buffer = [0u8; 318];
-    let a = turn_rebased(opened(2, AGREED), first, &mut buffer);
-    let b = turn_rebased(a, second, &mut buffer);
-    let c = turn_rebased(b, first, &mut buffer);
-    let d = turn(c, first, &mut buffer);
-    turn_rebased(d, second, &mut buffer);
+    let a = turn_rebased(to, opened(to, 2, AGREED), first, &mut buffer);
+    let b = turn_rebased(to, a, second, &mut buffer);
+    let c = turn_rebased(to, b, first, &mut buffer);
+    let d = turn(to, c, first, &mut buffer);
+    turn_rebased(to, d, second, &mut buffer);
 }
 
 // The two frames of the request and the four of the reply, one after another.
-fn feed(request: &[u8], reply: &[u8]) {
+fn feed(to: Stdout, request: &[u8], reply: &[u8]) {
     let first = wire::front(reply, 80);
     let second = wire::front(wire::rest(reply, 80), 80);
     let third = wire::front(wire::rest(reply, 160), 80);
     let last = wire::rest(reply, 240);
-    as_printed(request, first, second, third, last);
-    asked_for(request);
-    counted_from_start(first, second, third, last);
-    above_the_limit(first, last);
-    from_141(second, third, last);
-    start_again(first, second);
+    as_printed(to, request, first, second, third, last);
+    asked_for(to, request);
+    counted_from_start(to, first, second, third, last);
+    above_the_limit(to, first, last);
+    from_141(to, second, third, last);
+    start_again(to, first, second);
 }
 
-fn tell_read(bytes: &[u8]) {
+fn tell_read(to: Stdout, bytes: &[u8]) {
     let read = sm160_frame::read_frame(bytes);
     match read {
-        FrameRead::Frame(f) => say(b"offset ", f.offset as u64),
-        FrameRead::Refused(n) => say(b"refused ", n as u64),
+        FrameRead::Frame(f) => say(to, b"offset ", f.offset as u64),
+        FrameRead::Refused(n) => say(to, b"refused ", n as u64),
     }
 }
 
-fn write_and_read(part: &[u8]) {
+fn write_and_read(to: Stdout, part: &[u8]) {
     let mut out = [0u8; 300];
     let written = sm160_frame::write_frame(2, 5, sm160_frame::END, part, &mut out);
     match written {
         Written::Length(n) => {
-            say(b"length ", n as u64);
-            tell_read(wire::front(&out, n));
+            say(to, b"length ", n as u64);
+            tell_read(to, wire::front(&out, n));
         }
-        Written::Refused(n) => say(b"refused ", n as u64),
+        Written::Refused(n) => say(to, b"refused ", n as u64),
     }
 }
 
-fn frames() {
+fn frames(to: Stdout) {
     let bytes = [7u8; 241];
-    line(b"a part of 240, a part of 241, 12 bytes, 11 bytes");
-    write_and_read(&bytes[..240]);
-    write_and_read(&bytes);
+    line(to, b"a part of 240, a part of 241, 12 bytes, 11 bytes");
+    write_and_read(to, &bytes[..240]);
+    write_and_read(to, &bytes);
     let header = [0u8; 12];
-    tell_read(&header);
-    tell_read(&header[..11]);
+    tell_read(to, &header);
+    tell_read(to, &header[..11]);
 }
 
-fn main() {
+// Fills the buffer as far as there is input. A read that fails ends it.
+fn read_full(from: Stdin, buffer: &mut [u8]) {
+    let mut input = from;
+    let mut n = 0;
+    while n < buffer.len() {
+        match input.read(&mut buffer[n..]) {
+            Ok(more) => {
+                if more == 0 {
+                    break;
+                }
+                n += more;
+            }
+            Err(_) => break,
+        }
+    }
+}
+
+fn main(rt: HostRuntime) {
+    let to = rt.stdout();
     let mut all = [0u8; 467];
-    io::read_full(STDIN_FILENO, &mut all);
-    agreement(wire::front(&all, 34), wire::front(wire::rest(&all, 34), 43));
-    feed(wire::front(wire::rest(&all, 77), 97), wire::rest(&all, 174));
-    frames();
+    read_full(rt.stdin(), &mut all);
+    agreement(to, wire::front(&all, 34), wire::front(wire::rest(&all, 34), 43));
+    feed(to, wire::front(wire::rest(&all, 77), 97), wire::rest(&all, 174));
+    frames(to);
 }

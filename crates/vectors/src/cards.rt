@@ -1,4 +1,5 @@
 // Acts 50, 51, 53 to 56 and 59: the reading card in both forms, its moves, and the numbers of archives.
+use std::io::Stdout;
 use crate::say;
 use archive::{Source, source_from, source_number, type_from, type_number};
 use archive_card::{
@@ -10,7 +11,7 @@ use reading::{bits, kind_from, kind_of, number_of, of_bits};
 use wire::{Written, byte_at, le16_at, le32_at, le64_at};
 
 // The archive kind is the last word, which a card of 17 bytes has not.
-fn fields(form: Form, c: Card, source: Source) -> bool {
+fn fields(to: Stdout, form: Form, c: Card, source: Source) -> bool {
     let t = c.time;
     let v = c.value;
     let words = [
@@ -28,8 +29,8 @@ fn fields(form: Form, c: Card, source: Source) -> bool {
         source_number(source) as u64,
     ];
     match form {
-        Form::Card => say::numbers(&words[..11]),
-        Form::ArchiveCard => say::numbers(&words),
+        Form::Card => say::numbers(to, &words[..11]),
+        Form::ArchiveCard => say::numbers(to, &words),
     }
 }
 
@@ -42,21 +43,21 @@ fn card_from(numbers: &[u8]) -> Card {
     }
 }
 
-fn read(bytes: &[u8]) -> bool {
+fn read(to: Stdout, bytes: &[u8]) -> bool {
     match read_card(bytes) {
-        CardRead::Card(c) => fields(Form::Card, c, Source::Current),
-        CardRead::Refused(n) => say::refused(n),
+        CardRead::Card(c) => fields(to, Form::Card, c, Source::Current),
+        CardRead::Refused(n) => say::refused(to, n),
     }
 }
 
-fn read_archive(bytes: &[u8]) -> bool {
+fn read_archive(to: Stdout, bytes: &[u8]) -> bool {
     match read_archive_card(bytes) {
         ArchiveCardRead::Card(a) => {
             let c = a.card;
             let source = a.source;
-            fields(Form::ArchiveCard, c, source)
+            fields(to, Form::ArchiveCard, c, source)
         }
-        ArchiveCardRead::Refused(n) => say::refused(n),
+        ArchiveCardRead::Refused(n) => say::refused(to, n),
     }
 }
 
@@ -70,20 +71,20 @@ fn write(act: u8, numbers: &[u8], bytes: &[u8], out: &mut [u8]) -> Written {
 }
 
 // Act 59: the number of a source and that of an archive kind, there and back.
-fn archive_numbers(source: u8, kind: u16) -> bool {
+fn archive_numbers(to: Stdout, source: u8, kind: u16) -> bool {
     let s = source_number(source_from(source));
     let k = type_number(type_from(kind));
-    say::numbers(&[0, s as u64, k as u64])
+    say::numbers(to, &[0, s as u64, k as u64])
 }
 
-pub fn answer(act: u8, numbers: &[u8], bytes: &[u8], out: &mut [u8]) -> bool {
+pub fn answer(to: Stdout, act: u8, numbers: &[u8], bytes: &[u8], out: &mut [u8]) -> bool {
     match act {
-        50 => read(bytes),
-        53 => read_archive(bytes),
-        59 => archive_numbers(byte_at(numbers, 0), le16_at(numbers, 8)),
+        50 => read(to, bytes),
+        53 => read_archive(to, bytes),
+        59 => archive_numbers(to, byte_at(numbers, 0), le16_at(numbers, 8)),
         _ => {
             let w = write(act, numbers, bytes, out);
-            say::written(w, out)
+            say::written(to, w, out)
         }
     }
 }

@@ -1,20 +1,21 @@
 // Act 60: the meter's clock beside the cabinet's.
+use std::io::Stdout;
 use crate::say;
 use clock::{Difference, clock_difference};
 use date::date_at;
 
 // The sign, 1 for negative, and the size, which for the least i64 is no i64.
-fn seconds(z: i64) -> bool {
+fn seconds(to: Stdout, z: i64) -> bool {
     if z < 0 {
-        say::numbers(&[0, 1, (-1 - z) as u64 + 1])
+        say::numbers(to, &[0, 1, (-1 - z) as u64 + 1])
     } else {
-        say::numbers(&[0, 0, z as u64])
+        say::numbers(to, &[0, 0, z as u64])
     }
 }
 
-pub fn answer(numbers: &[u8]) -> bool {
+pub fn answer(to: Stdout, numbers: &[u8]) -> bool {
     match clock_difference(date_at(numbers, 0), date_at(numbers, 8)) {
-        Difference::Seconds(z) => seconds(z),
-        Difference::Refused(n) => say::refused(n),
+        Difference::Seconds(z) => seconds(to, z),
+        Difference::Refused(n) => say::refused(to, n),
     }
 }

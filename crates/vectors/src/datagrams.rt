@@ -1,11 +1,12 @@
 // Acts 71 to 80: SM160 datagrams, and the read-file request and reply.
+use std::io::Stdout;
 use crate::{say, size_at};
 use sm160_datagram::{DatagramRead, data_of, options_of, read_datagram};
 use sm160_read_file::{ReplyRead, RequestRead};
 use wire::{Written, byte_at, front, le32_at, le64_at, rest};
 
 // Act 72: with the options.
-fn with_options(bytes: &[u8]) -> bool {
+fn with_options(to: Stdout, bytes: &[u8]) -> bool {
     match read_datagram(bytes) {
         DatagramRead::Datagram(kind) => {
             let part = options_of(bytes);
@@ -15,37 +16,37 @@ fn with_options(bytes: &[u8]) -> bool {
                 part.len() as u64,
                 data_of(bytes).len() as u64,
             ];
-            say::line(&words, part)
+            say::line(to, &words, part)
         }
-        DatagramRead::Refused(n) => say::refused(n),
+        DatagramRead::Refused(n) => say::refused(to, n),
     }
 }
 
 // Act 73: with the data.
-fn with_data(bytes: &[u8]) -> bool {
+fn with_data(to: Stdout, bytes: &[u8]) -> bool {
     match read_datagram(bytes) {
-        DatagramRead::Datagram(kind) => say::line(&[0, kind as u64], data_of(bytes)),
-        DatagramRead::Refused(n) => say::refused(n),
+        DatagramRead::Datagram(kind) => say::line(to, &[0, kind as u64], data_of(bytes)),
+        DatagramRead::Refused(n) => say::refused(to, n),
     }
 }
 
-fn request(bytes: &[u8]) -> bool {
+fn request(to: Stdout, bytes: &[u8]) -> bool {
     match sm160_read_file::read_request(bytes) {
-        RequestRead::Request { offset, size } => say::line(
+        RequestRead::Request { offset, size } => say::line(to, 
             &[0, offset, size],
             sm160_read_file::name_of(bytes),
         ),
-        RequestRead::Refused(n) => say::refused(n),
+        RequestRead::Refused(n) => say::refused(to, n),
     }
 }
 
-fn reply(bytes: &[u8]) -> bool {
+fn reply(to: Stdout, bytes: &[u8]) -> bool {
     match sm160_read_file::read_reply(bytes) {
         ReplyRead::Reply(status) => {
             let words = [0, status as u64, data_of(bytes).len() as u64];
-            say::line(&words, sm160_read_file::message_of(bytes))
+            say::line(to, &words, sm160_read_file::message_of(bytes))
         }
-        ReplyRead::Refused(n) => say::refused(n),
+        ReplyRead::Refused(n) => say::refused(to, n),
     }
 }
 
@@ -70,11 +71,11 @@ fn write(act: u8, numbers: &[u8], bytes: &[u8], out: &mut [u8]) -> Written {
 }
 
 // A writer's answer, and the CRC-32 of the whole of its output.
-fn summed(w: Written, out: &[u8]) -> bool {
+fn summed(to: Stdout, w: Written, out: &[u8]) -> bool {
     let crc = checksum::crc32_from(0, out) as u64;
     match w {
-        Written::Length(n) => say::numbers(&[0, n as u64, crc]),
-        Written::Refused(n) => say::numbers(&[n as u64, crc]),
+        Written::Length(n) => say::numbers(to, &[0, n as u64, crc]),
+        Written::Refused(n) => say::numbers(to, &[n as u64, crc]),
     }
 }
 
@@ -86,56 +87,56 @@ fn write_text(kind: u8, text: &[u8], out: &mut [u8]) -> Written {
     }
 }
 
-fn long_text(kind: u8, text: &[u8], out: &mut [u8]) -> bool {
+fn long_text(to: Stdout, kind: u8, text: &[u8], out: &mut [u8]) -> bool {
     let w = write_text(kind, text, out);
-    summed(w, out)
+    summed(to, w, out)
 }
 
 // Into the first n bytes of a buffer.
-fn long_into(kind: u8, text: &[u8], buffer: &mut [u8], n: usize) -> bool {
+fn long_into(to: Stdout, kind: u8, text: &[u8], buffer: &mut [u8], n: usize) -> bool {
     if n <= buffer.len() {
-        long_text(kind, text, &mut buffer[..n])
+        long_text(to, kind, text, &mut buffer[..n])
     } else {
         false
     }
 }
 
 // Act 79: a text of n zero bytes and an output of zero bytes, longer than a case can hold.
-fn long(kind: u8, n: usize, room: usize) -> bool {
+fn long(to: Stdout, kind: u8, n: usize, room: usize) -> bool {
     let text = [0u8; 65600];
     let mut buffer = [0u8; 65700];
-    long_into(kind, front(&text, n), &mut buffer, room)
+    long_into(to, kind, front(&text, n), &mut buffer, room)
 }
 
 // Act 80: the two ends of a datagram.
-fn put_ends(numbers: &[u8], out: &mut [u8]) -> bool {
+fn put_ends(to: Stdout, numbers: &[u8], out: &mut [u8]) -> bool {
     sm160_datagram::put_opening(out, byte_at(numbers, 0), le32_at(numbers, 8));
     sm160_datagram::put_closing(out, size_at(numbers, 16), le64_at(numbers, 24));
-    say::line(&[0], out)
+    say::line(to, &[0], out)
 }
 
-fn read(act: u8, bytes: &[u8]) -> bool {
+fn read(to: Stdout, act: u8, bytes: &[u8]) -> bool {
     match act {
-        72 => with_options(bytes),
-        73 => with_data(bytes),
-        75 => request(bytes),
-        _ => reply(bytes),
+        72 => with_options(to, bytes),
+        73 => with_data(to, bytes),
+        75 => request(to, bytes),
+        _ => reply(to, bytes),
     }
 }
 
-pub fn answer(act: u8, numbers: &[u8], bytes: &[u8], out: &mut [u8]) -> bool {
+pub fn answer(to: Stdout, act: u8, numbers: &[u8], bytes: &[u8], out: &mut [u8]) -> bool {
     match act {
-        71 => say::refused(sm160_datagram::datagram_fault(bytes, out)),
-        72 | 73 | 75 | 77 => read(act, bytes),
-        79 => long(
+        71 => say::refused(to, sm160_datagram::datagram_fault(bytes, out)),
+        72 | 73 | 75 | 77 => read(to, act, bytes),
+        79 => long(to, 
             byte_at(numbers, 0),
             size_at(numbers, 8),
             size_at(numbers, 16),
         ),
-        80 => put_ends(numbers, out),
+        80 => put_ends(to, numbers, out),
         _ => {
             let w = write(act, numbers, bytes, out);
-            say::written(w, out)
+            say::written(to, w, out)
         }
     }
 }

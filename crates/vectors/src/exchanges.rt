@@ -1,4 +1,5 @@
 // Acts 98 and 99: an ADI request in its envelope, and the reply to it.
+use std::io::Stdout;
 use crate::{say, size_at};
 use adi_request::{AskedAt, RequestRead};
 use modbus::{RtuRead, TcpRead};
@@ -91,8 +92,8 @@ fn write(act: u8, packet: &[u8], registers: &[u8], out: &mut [u8]) -> Written {
 }
 
 // The number tells where the request's packet ends and the registers begin.
-pub fn answer(act: u8, numbers: &[u8], bytes: &[u8], out: &mut [u8]) -> bool {
+pub fn answer(to: Stdout, act: u8, numbers: &[u8], bytes: &[u8], out: &mut [u8]) -> bool {
     let cut = size_at(numbers, 0);
     let w = write(act, front(bytes, cut), rest(bytes, cut), out);
-    say::written(w, out)
+    say::written(to, w, out)
 }

@@ -1,37 +1,38 @@
 // Acts 90 to 97: ADI file records, asked for and brought, and the descriptor.
+use std::io::Stdout;
 use crate::{say, size_at};
 use adi::DescriptorRead;
 use adi_reply::ReplyRead;
 use adi_request::{AskedAt, RequestRead};
 use wire::{Written, byte_at, front, le16_at, rest};
 
-fn request(pdu: &[u8]) -> bool {
+fn request(to: Stdout, pdu: &[u8]) -> bool {
     match adi_request::read_request(pdu) {
-        RequestRead::Groups(n) => say::numbers(&[0, n as u64]),
-        RequestRead::Refused(n) => say::refused(n),
+        RequestRead::Groups(n) => say::numbers(to, &[0, n as u64]),
+        RequestRead::Refused(n) => say::refused(to, n),
     }
 }
 
 // Act 91: 0 for a place that is not there.
-fn asked(pdu: &[u8], place: usize) -> bool {
+fn asked(to: Stdout, pdu: &[u8], place: usize) -> bool {
     match adi_request::asked_at(pdu, place) {
         AskedAt::Asked(a) => {
             let words = [0, 1, a.file as u64, a.record as u64, a.length as u64];
-            say::numbers(&words)
+            say::numbers(to, &words)
         }
-        AskedAt::Nothing => say::numbers(&[0, 0]),
+        AskedAt::Nothing => say::numbers(to, &[0, 0]),
     }
 }
 
-fn reply(pdu: &[u8]) -> bool {
+fn reply(to: Stdout, pdu: &[u8]) -> bool {
     match adi_reply::read_reply(pdu) {
-        ReplyRead::Groups(n) => say::numbers(&[0, n as u64]),
-        ReplyRead::NoData(count, length) => say::numbers(&[0, count as u64, length as u64]),
-        ReplyRead::Refused(n) => say::refused(n),
+        ReplyRead::Groups(n) => say::numbers(to, &[0, n as u64]),
+        ReplyRead::NoData(count, length) => say::numbers(to, &[0, count as u64, length as u64]),
+        ReplyRead::Refused(n) => say::refused(to, n),
     }
 }
 
-fn descriptor(registers: &[u8]) -> bool {
+fn descriptor(to: Stdout, registers: &[u8]) -> bool {
     match adi::read_descriptor(registers) {
         DescriptorRead::Descriptor(d) => {
             let contents = d.contents;
@@ -45,9 +46,9 @@ fn descriptor(registers: &[u8]) -> bool {
                 d.next as u64,
                 d.total as u64,
             ];
-            say::numbers(&words)
+            say::numbers(to, &words)
         }
-        DescriptorRead::Refused(n) => say::refused(n),
+        DescriptorRead::Refused(n) => say::refused(to, n),
     }
 }
 
@@ -90,22 +91,22 @@ fn write(act: u8, numbers: &[u8], bytes: &[u8], out: &mut [u8]) -> Written {
     }
 }
 
-fn read(act: u8, numbers: &[u8], bytes: &[u8]) -> bool {
+fn read(to: Stdout, act: u8, numbers: &[u8], bytes: &[u8]) -> bool {
     match act {
-        90 => request(bytes),
-        91 => asked(bytes, size_at(numbers, 0)),
-        93 => reply(bytes),
-        94 => say::line(&[0], adi_reply::registers_at(bytes, size_at(numbers, 0))),
-        _ => descriptor(bytes),
+        90 => request(to, bytes),
+        91 => asked(to, bytes, size_at(numbers, 0)),
+        93 => reply(to, bytes),
+        94 => say::line(to, &[0], adi_reply::registers_at(bytes, size_at(numbers, 0))),
+        _ => descriptor(to, bytes),
     }
 }
 
-pub fn answer(act: u8, numbers: &[u8], bytes: &[u8], out: &mut [u8]) -> bool {
+pub fn answer(to: Stdout, act: u8, numbers: &[u8], bytes: &[u8], out: &mut [u8]) -> bool {
     match act {
         92 | 95 | 96 => {
             let w = write(act, numbers, bytes, out);
-            say::written(w, out)
+            say::written(to, w, out)
         }
-        _ => read(act, numbers, bytes),
+        _ => read(to, act, numbers, bytes),
     }
 }

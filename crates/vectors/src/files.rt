@@ -1,20 +1,21 @@
 // Acts 40 to 42: SM160 frames and the sender.
+use std::io::Stdout;
 use crate::{say, size_at};
 use sm160_frame::FrameRead;
 use sm160_sender::Sent;
 use wire::{le16_at, le32_at};
 
-fn frame(bytes: &[u8]) -> bool {
+fn frame(to: Stdout, bytes: &[u8]) -> bool {
     match sm160_frame::read_frame(bytes) {
         FrameRead::Frame(f) => {
             let words = [0, f.session as u64, f.offset as u64, f.flags as u64];
-            say::line(&words, sm160_frame::part_of(bytes))
+            say::line(to, &words, sm160_frame::part_of(bytes))
         }
-        FrameRead::Refused(n) => say::refused(n),
+        FrameRead::Refused(n) => say::refused(to, n),
     }
 }
 
-fn send(numbers: &[u8], file: &[u8], out: &mut [u8]) -> bool {
+fn send(to: Stdout, numbers: &[u8], file: &[u8], out: &mut [u8]) -> bool {
     match sm160_sender::send(
         file,
         le16_at(numbers, 0),
@@ -22,14 +23,14 @@ fn send(numbers: &[u8], file: &[u8], out: &mut [u8]) -> bool {
         size_at(numbers, 16),
         out,
     ) {
-        Sent::Frame { length, next } => say::line(&[0, length as u64, next as u64], out),
-        Sent::Refused(n) => say::line(&[n as u64], out),
+        Sent::Frame { length, next } => say::line(to, &[0, length as u64, next as u64], out),
+        Sent::Refused(n) => say::line(to, &[n as u64], out),
     }
 }
 
-pub fn answer(act: u8, numbers: &[u8], bytes: &[u8], out: &mut [u8]) -> bool {
+pub fn answer(to: Stdout, act: u8, numbers: &[u8], bytes: &[u8], out: &mut [u8]) -> bool {
     match act {
-        40 => frame(bytes),
+        40 => frame(to, bytes),
         41 => {
             let flags = le16_at(numbers, 16);
             let w = sm160_frame::write_frame(
@@ -39,8 +40,8 @@ pub fn answer(act: u8, numbers: &[u8], bytes: &[u8], out: &mut [u8]) -> bool {
                 bytes,
                 out,
             );
-            say::written(w, out)
+            say::written(to, w, out)
         }
-        _ => send(numbers, bytes, out),
+        _ => send(to, numbers, bytes, out),
     }
 }

@@ -1,9 +1,10 @@
 // Acts 10 to 13: Pulsar-M frames.
+use std::io::Stdout;
 use crate::say;
 use pulsar_frame::{FrameRead, payload, read_at_master, read_at_meter, write_reply, write_request};
 use wire::{byte_at, le16_at, le32_at};
 
-fn frame(r: FrameRead, bytes: &[u8]) -> bool {
+fn frame(to: Stdout, r: FrameRead, bytes: &[u8]) -> bool {
     match r {
         FrameRead::Frame(f) => {
             let words = [
@@ -13,27 +14,27 @@ fn frame(r: FrameRead, bytes: &[u8]) -> bool {
                 f.id as u64,
                 f.len as u64,
             ];
-            say::line(&words, payload(bytes, f.len))
+            say::line(to, &words, payload(bytes, f.len))
         }
-        FrameRead::Missing(lack) => say::numbers(&[9, lack as u64]),
-        FrameRead::Refused(n) => say::refused(n),
+        FrameRead::Missing(lack) => say::numbers(to, &[9, lack as u64]),
+        FrameRead::Refused(n) => say::refused(to, n),
     }
 }
 
-pub fn answer(act: u8, numbers: &[u8], bytes: &[u8], out: &mut [u8]) -> bool {
+pub fn answer(to: Stdout, act: u8, numbers: &[u8], bytes: &[u8], out: &mut [u8]) -> bool {
     let address = le32_at(numbers, 0);
     let function = byte_at(numbers, 8);
     let id = le16_at(numbers, 16);
     match act {
-        10 => frame(read_at_meter(address, bytes), bytes),
-        11 => frame(read_at_master(address, function, id, bytes), bytes),
+        10 => frame(to, read_at_meter(address, bytes), bytes),
+        11 => frame(to, read_at_master(address, function, id, bytes), bytes),
         12 => {
             let w = write_request(address, function, id, bytes, out);
-            say::written(w, out)
+            say::written(to, w, out)
         }
         _ => {
             let w = write_reply(address, function, id, bytes, out);
-            say::written(w, out)
+            say::written(to, w, out)
         }
     }
 }

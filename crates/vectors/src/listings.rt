@@ -1,4 +1,5 @@
 // Acts 52, 57 and 58: the line of a card or of a refusal, and the lines of many cards.
+use std::io::Stdout;
 use crate::say;
 use card_lines::{entry_of, put_lines};
 use card_text::{Entry, Form, put_line};
@@ -29,7 +30,7 @@ fn write(act: u8, n: u8, bytes: &[u8], out: &mut [u8]) -> Written {
     }
 }
 
-pub fn answer(act: u8, numbers: &[u8], bytes: &[u8], out: &mut [u8]) -> bool {
+pub fn answer(to: Stdout, act: u8, numbers: &[u8], bytes: &[u8], out: &mut [u8]) -> bool {
     let w = write(act, byte_at(numbers, 0), bytes, out);
-    say::written(w, out)
+    say::written(to, w, out)
 }

@@ -1,4 +1,8 @@
 // Answers each case of standard input with a line. tests/reference/CASES.md says how a case and a line are written.
+#![tactic(auto)]
+
+ghost use Rattle.std.specs.Prelude.{◌≤◌, length};
+
 mod cards;
 mod clocks;
 mod collector;
@@ -17,8 +21,8 @@ mod requests;
 mod say;
 mod summaries;
 mod tables;
-mod texts;
 
+use std::io::{Read, Stdin, Stdout};
 use wire::{byte_at, front, le16_at, le64_at, rest};
 
 // A number that counts bytes, places or the like.
@@ -26,67 +30,86 @@ fn size_at(numbers: &[u8], at: usize) -> usize {
     le64_at(numbers, at) as usize
 }
 
-fn pulsar(act: u8, numbers: &[u8], bytes: &[u8], out: &mut [u8]) -> bool {
+fn pulsar(to: Stdout, act: u8, numbers: &[u8], bytes: &[u8], out: &mut [u8]) -> bool {
     match act {
-        10..=13 => frames::answer(act, numbers, bytes, out),
-        14..=15 => collector::answer(act, numbers, bytes),
-        20 | 22 => requests::answer(act, numbers, bytes, out),
-        21 | 23 => replies::answer(act, numbers, bytes, out),
-        24 => summaries::answer(numbers, bytes),
-        _ => say::unknown(act),
+        10..=13 => frames::answer(to, act, numbers, bytes, out),
+        14..=15 => collector::answer(to, act, numbers, bytes),
+        20 | 22 => requests::answer(to, act, numbers, bytes, out),
+        21 | 23 => replies::answer(to, act, numbers, bytes, out),
+        24 => summaries::answer(to, numbers, bytes),
+        _ => say::unknown(to, act),
     }
 }
 
-fn controller(act: u8, numbers: &[u8], bytes: &[u8], out: &mut [u8]) -> bool {
+fn controller(to: Stdout, act: u8, numbers: &[u8], bytes: &[u8], out: &mut [u8]) -> bool {
     match act {
-        30..=35 => envelope::answer(act, numbers, bytes, out),
-        40..=42 => files::answer(act, numbers, bytes, out),
-        43..=44 => receiver::answer(act, numbers, bytes, out),
-        _ => say::unknown(act),
+        30..=35 => envelope::answer(to, act, numbers, bytes, out),
+        40..=42 => files::answer(to, act, numbers, bytes, out),
+        43..=44 => receiver::answer(to, act, numbers, bytes, out),
+        _ => say::unknown(to, act),
     }
 }
 
 // Answers a case: an act, its numbers of eight bytes each, and its byte strings.
-fn answer(act: u8, numbers: &[u8], bytes: &[u8], out: &mut [u8]) -> bool {
+fn answer(to: Stdout, act: u8, numbers: &[u8], bytes: &[u8], out: &mut [u8]) -> bool {
     match act {
-        1..=3 | 9 | 61..=63 | 70 => ground::answer(act, numbers, bytes, out),
-        4..=8 => readings::answer(act, numbers, bytes),
-        10..=24 => pulsar(act, numbers, bytes, out),
-        30..=44 => controller(act, numbers, bytes, out),
-        50..=51 | 53..=56 | 59 => cards::answer(act, numbers, bytes, out),
-        52 | 57..=58 => listings::answer(act, numbers, bytes, out),
-        60 => clocks::answer(numbers),
-        71..=80 => datagrams::answer(act, numbers, bytes, out),
-        81..=87 => tables::answer(act, numbers, bytes, out),
-        90..=97 => file_records::answer(act, numbers, bytes, out),
-        98..=99 => exchanges::answer(act, numbers, bytes, out),
-        100..=105 => texts::answer(act, numbers, bytes, out),
-        _ => say::unknown(act),
+        1..=3 | 9 | 61..=63 | 70 => ground::answer(to, act, numbers, bytes, out),
+        4..=8 => readings::answer(to, act, numbers, bytes),
+        10..=24 => pulsar(to, act, numbers, bytes, out),
+        30..=44 => controller(to, act, numbers, bytes, out),
+        50..=51 | 53..=56 | 59 => cards::answer(to, act, numbers, bytes, out),
+        52 | 57..=58 => listings::answer(to, act, numbers, bytes, out),
+        60 => clocks::answer(to, numbers),
+        71..=80 => datagrams::answer(to, act, numbers, bytes, out),
+        81..=87 => tables::answer(to, act, numbers, bytes, out),
+        90..=97 => file_records::answer(to, act, numbers, bytes, out),
+        98..=99 => exchanges::answer(to, act, numbers, bytes, out),
+        _ => say::unknown(to, act),
     }
 }
 
+// Reads until the buffer is full, the input ends or a read fails. Answers how many bytes came.
+fn read_full(from: Stdin, buffer: &mut [u8]) -> usize
+    ensures { result ≤ length buffer.new }
+{
+    let mut input = from;
+    let mut n = 0;
+    while n < buffer.len() {
+        match input.read(&mut buffer[n..]) {
+            Ok(more) => {
+                if more == 0 {
+                    break;
+                }
+                n += more;
+            }
+            Err(_) => break,
+        }
+    }
+    n
+}
+
 // Fills the first n bytes of a buffer, and answers whether they all came.
-fn read_part(buffer: &mut [u8], n: usize) -> bool {
+fn read_part(from: Stdin, buffer: &mut [u8], n: usize) -> bool {
     if n <= buffer.len() {
-        io::read_full(libc::STDIN_FILENO, &mut buffer[..n]) == n
+        read_full(from, &mut buffer[..n]) == n
     } else {
         false
     }
 }
 
 // Answers a case whose second byte string, which its call may change, is the first n bytes of a buffer.
-fn answer_into(act: u8, numbers: &[u8], bytes: &[u8], buffer: &mut [u8], n: usize) -> bool {
+fn answer_into(to: Stdout, act: u8, numbers: &[u8], bytes: &[u8], buffer: &mut [u8], n: usize) -> bool {
     if n <= buffer.len() {
-        answer(act, numbers, bytes, &mut buffer[..n])
+        answer(to, act, numbers, bytes, &mut buffer[..n])
     } else {
         false
     }
 }
 
 // Reads one case and answers it. False where the input has ended.
-fn answer_one(given: &mut [u8], out: &mut [u8]) -> bool {
+fn answer_one(from: Stdin, to: Stdout, given: &mut [u8], out: &mut [u8]) -> bool {
     let mut head = [0u8; 6];
-    let came = io::read_full(libc::STDIN_FILENO, &mut head);
+    let came = read_full(from, &mut head);
     if came == 0 {
         return false;
     }
@@ -94,15 +117,15 @@ fn answer_one(given: &mut [u8], out: &mut [u8]) -> bool {
     let m = n + le16_at(&head, 2) as usize;
     let k = le16_at(&head, 4) as usize;
     if came < 6 {
-        return say::cut_short();
+        return say::cut_short(to);
     }
-    if !read_part(given, m) {
-        return say::cut_short();
+    if !read_part(from, given, m) {
+        return say::cut_short(to);
     }
-    if !read_part(out, k) {
-        return say::cut_short();
+    if !read_part(from, out, k) {
+        return say::cut_short(to);
     }
-    answer_into(
+    answer_into(to, 
         byte_at(&head, 0),
         front(given, n),
         rest(front(given, m), n),
@@ -113,11 +136,13 @@ fn answer_one(given: &mut [u8], out: &mut [u8]) -> bool {
 
 // There is room for 255 numbers and for byte strings of any length that a case can say. A proved loop has to end, and nothing says that the
 // input does. So the loop counts its turns down from a number that no run uses up.
-fn main() {
+fn main(rt: HostRuntime) {
+    let from = rt.stdin();
+    let to = rt.stdout();
     let mut given = [0u8; 67575];
     let mut out = [0u8; 65535];
     let mut turns = u64::MAX;
-    while turns > 0 && answer_one(&mut given, &mut out) {
+    while turns > 0 && answer_one(from, to, &mut given, &mut out) {
         turns -= 1;
     }
 }

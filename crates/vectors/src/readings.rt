@@ -1,4 +1,5 @@
 // Acts 4 to 8: values by place, readings, the first absent value, channels, sameness.
+use std::io::Stdout;
 use crate::{say, size_at};
 use reading::mask::{channel_count, channel_of};
 use reading::values::{FirstAbsent, first_absent, value_at};
@@ -6,31 +7,31 @@ use reading::{Reading, ValueRead, is_same, kind_from, of_bits, read_value};
 use wire::{byte_at, le32_at, le64_at};
 
 // Kind, bits and whether they are absent.
-fn value(v: ValueRead) -> bool {
+fn value(to: Stdout, v: ValueRead) -> bool {
     match v {
         ValueRead::Value(r) => {
             let kind = reading::number_of(reading::kind_of(r));
-            say::numbers(&[
+            say::numbers(to, &[
                 0,
                 kind as u64,
                 reading::bits(r),
                 reading::is_absent(r) as u64,
             ])
         }
-        ValueRead::Refused(n) => say::refused(n),
+        ValueRead::Refused(n) => say::refused(to, n),
     }
 }
 
-fn absent(f: FirstAbsent) -> bool {
+fn absent(to: Stdout, f: FirstAbsent) -> bool {
     match f {
-        FirstAbsent::At(place) => say::numbers(&[0, place as u64]),
-        FirstAbsent::Nothing => say::numbers(&[0, 0]),
-        FirstAbsent::Refused(n) => say::refused(n),
+        FirstAbsent::At(place) => say::numbers(to, &[0, place as u64]),
+        FirstAbsent::Nothing => say::numbers(to, &[0, 0]),
+        FirstAbsent::Refused(n) => say::refused(to, n),
     }
 }
 
-fn channel(mask: u32, place: usize) -> bool {
-    say::numbers(&[
+fn channel(to: Stdout, mask: u32, place: usize) -> bool {
+    say::numbers(to, &[
         0,
         channel_of(mask, place) as u64,
         channel_count(mask) as u64,
@@ -45,20 +46,20 @@ fn reading_from(numbers: &[u8], at: usize) -> Reading {
     )
 }
 
-fn same(numbers: &[u8]) -> bool {
+fn same(to: Stdout, numbers: &[u8]) -> bool {
     let s = is_same(reading_from(numbers, 0), reading_from(numbers, 16));
-    say::numbers(&[0, s as u64])
+    say::numbers(to, &[0, s as u64])
 }
 
-pub fn answer(act: u8, numbers: &[u8], bytes: &[u8]) -> bool {
+pub fn answer(to: Stdout, act: u8, numbers: &[u8], bytes: &[u8]) -> bool {
     match act {
         4 => {
             let kind = kind_from(byte_at(numbers, 8));
-            value(value_at(size_at(numbers, 0), kind, bytes, size_at(numbers, 16)))
+            value(to, value_at(size_at(numbers, 0), kind, bytes, size_at(numbers, 16)))
         }
-        5 => value(read_value(kind_from(byte_at(numbers, 0)), bytes)),
-        6 => absent(first_absent(size_at(numbers, 0), bytes)),
-        7 => channel(le32_at(numbers, 0), size_at(numbers, 8)),
-        _ => same(numbers),
+        5 => value(to, read_value(kind_from(byte_at(numbers, 0)), bytes)),
+        6 => absent(to, first_absent(size_at(numbers, 0), bytes)),
+        7 => channel(to, le32_at(numbers, 0), size_at(numbers, 8)),
+        _ => same(to, numbers),
     }
 }

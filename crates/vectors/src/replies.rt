@@ -1,10 +1,11 @@
 // Acts 21 and 23: reply bodies.
+use std::io::Stdout;
 use crate::{say, size_at};
 use date::{DateTime, date_at, is_no_date};
 use pulsar_reply::{ArchiveReply, Reply, ReplyRead};
 use wire::{byte_at, le32_at};
 
-fn clock(function: u64, d: DateTime) -> bool {
+fn clock(to: Stdout, function: u64, d: DateTime) -> bool {
     let words = [
         0,
         function,
@@ -16,10 +17,10 @@ fn clock(function: u64, d: DateTime) -> bool {
         d.minute as u64,
         d.second as u64,
     ];
-    say::numbers(&words)
+    say::numbers(to, &words)
 }
 
-fn archive(function: u64, a: ArchiveReply, values: &[u8]) -> bool {
+fn archive(to: Stdout, function: u64, a: ArchiveReply, values: &[u8]) -> bool {
     let f = a.first;
     let words = [
         0,
@@ -32,33 +33,33 @@ fn archive(function: u64, a: ArchiveReply, values: &[u8]) -> bool {
         f.minute as u64,
         f.second as u64,
     ];
-    say::line(&words, values)
+    say::line(to, &words, values)
 }
 
-fn reply(r: Reply, values: &[u8]) -> bool {
+fn reply(to: Stdout, r: Reply, values: &[u8]) -> bool {
     let function = pulsar_reply::reply_function(r) as u64;
     match r {
-        Reply::Error(error) => say::line(&[0, function, error as u64], values),
-        Reply::Channels => say::line(&[0, function], values),
-        Reply::ChannelsWritten(mask) => say::line(&[0, function, mask as u64], values),
-        Reply::Clock(d) => clock(function, d),
-        Reply::NoClock => say::line(&[0, function, 0], b""),
-        Reply::ClockSet(status) => say::line(&[0, function, status as u64], b""),
-        Reply::Archive(a) => archive(function, a, values),
-        Reply::Parameter => say::line(&[0, function], values),
-        Reply::ParameterWritten => say::line(&[0, function], b""),
+        Reply::Error(error) => say::line(to, &[0, function, error as u64], values),
+        Reply::Channels => say::line(to, &[0, function], values),
+        Reply::ChannelsWritten(mask) => say::line(to, &[0, function, mask as u64], values),
+        Reply::Clock(d) => clock(to, function, d),
+        Reply::NoClock => say::line(to, &[0, function, 0], b""),
+        Reply::ClockSet(status) => say::line(to, &[0, function, status as u64], b""),
+        Reply::Archive(a) => archive(to, function, a, values),
+        Reply::Parameter => say::line(to, &[0, function], values),
+        Reply::ParameterWritten => say::line(to, &[0, function], b""),
     }
 }
 
-fn read(numbers: &[u8], body: &[u8]) -> bool {
+fn read(to: Stdout, numbers: &[u8], body: &[u8]) -> bool {
     match pulsar_reply::read_reply(
         byte_at(numbers, 0),
         size_at(numbers, 8),
         le32_at(numbers, 16),
         body,
     ) {
-        ReplyRead::Reply(r) => reply(r, pulsar_reply::reply_values(r, body)),
-        ReplyRead::Refused(n) => say::refused(n),
+        ReplyRead::Reply(r) => reply(to, r, pulsar_reply::reply_values(r, body)),
+        ReplyRead::Refused(n) => say::refused(to, n),
     }
 }
 
@@ -90,12 +91,12 @@ fn reply_from(numbers: &[u8]) -> Reply {
     }
 }
 
-pub fn answer(act: u8, numbers: &[u8], bytes: &[u8], out: &mut [u8]) -> bool {
+pub fn answer(to: Stdout, act: u8, numbers: &[u8], bytes: &[u8], out: &mut [u8]) -> bool {
     if act == 21 {
-        return read(numbers, bytes);
+        return read(to, numbers, bytes);
     }
     let width = size_at(numbers, 8);
     let mask = le32_at(numbers, 16);
     let w = pulsar_reply::write_reply_body(reply_from(numbers), width, mask, bytes, out);
-    say::written(w, out)
+    say::written(to, w, out)
 }

@@ -1,11 +1,12 @@
 // Acts 20 and 22: request bodies.
+use std::io::Stdout;
 use crate::{say, size_at};
 use archive::{type_from, type_number};
 use date::{DateTime, date_at};
 use pulsar_request::{ArchiveRequest, Request, RequestRead};
 use wire::{byte_at, le16_at, le32_at};
 
-fn clock(function: u64, d: DateTime) -> bool {
+fn clock(to: Stdout, function: u64, d: DateTime) -> bool {
     let words = [
         0,
         function,
@@ -16,10 +17,10 @@ fn clock(function: u64, d: DateTime) -> bool {
         d.minute as u64,
         d.second as u64,
     ];
-    say::numbers(&words)
+    say::numbers(to, &words)
 }
 
-fn archive_request(function: u64, a: ArchiveRequest) -> bool {
+fn archive_request(to: Stdout, function: u64, a: ArchiveRequest) -> bool {
     let kind = a.kind;
     let f = a.first;
     let l = a.last;
@@ -41,26 +42,26 @@ fn archive_request(function: u64, a: ArchiveRequest) -> bool {
         l.minute as u64,
         l.second as u64,
     ];
-    say::numbers(&words)
+    say::numbers(to, &words)
 }
 
-fn request(r: Request, values: &[u8]) -> bool {
+fn request(to: Stdout, r: Request, values: &[u8]) -> bool {
     let function = pulsar_request::request_function(r) as u64;
     match r {
-        Request::ReadChannels(mask) => say::line(&[0, function, mask as u64], values),
-        Request::WriteChannels(mask) => say::line(&[0, function, mask as u64], values),
-        Request::ReadClock => say::line(&[0, function], values),
-        Request::SetClock(d) => clock(function, d),
-        Request::ReadArchive(a) => archive_request(function, a),
-        Request::ReadParameter(index) => say::line(&[0, function, index as u64], values),
-        Request::WriteParameter(index) => say::line(&[0, function, index as u64], values),
+        Request::ReadChannels(mask) => say::line(to, &[0, function, mask as u64], values),
+        Request::WriteChannels(mask) => say::line(to, &[0, function, mask as u64], values),
+        Request::ReadClock => say::line(to, &[0, function], values),
+        Request::SetClock(d) => clock(to, function, d),
+        Request::ReadArchive(a) => archive_request(to, function, a),
+        Request::ReadParameter(index) => say::line(to, &[0, function, index as u64], values),
+        Request::WriteParameter(index) => say::line(to, &[0, function, index as u64], values),
     }
 }
 
-fn read(numbers: &[u8], body: &[u8]) -> bool {
+fn read(to: Stdout, numbers: &[u8], body: &[u8]) -> bool {
     match pulsar_request::read_request(byte_at(numbers, 0), size_at(numbers, 8), body) {
-        RequestRead::Request(r) => request(r, pulsar_request::request_values(r, body)),
-        RequestRead::Refused(n) => say::refused(n),
+        RequestRead::Request(r) => request(to, r, pulsar_request::request_values(r, body)),
+        RequestRead::Refused(n) => say::refused(to, n),
     }
 }
 
@@ -85,9 +86,9 @@ fn request_from(numbers: &[u8]) -> Request {
     }
 }
 
-pub fn answer(act: u8, numbers: &[u8], bytes: &[u8], out: &mut [u8]) -> bool {
+pub fn answer(to: Stdout, act: u8, numbers: &[u8], bytes: &[u8], out: &mut [u8]) -> bool {
     if act == 20 {
-        return read(numbers, bytes);
+        return read(to, numbers, bytes);
     }
     let w = pulsar_request::write_request_body(
         request_from(numbers),
@@ -95,5 +96,5 @@ pub fn answer(act: u8, numbers: &[u8], bytes: &[u8], out: &mut [u8]) -> bool {
         bytes,
         out,
     );
-    say::written(w, out)
+    say::written(to, w, out)
 }

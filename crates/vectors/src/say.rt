@@ -1,12 +1,23 @@
 // An answer's line: numbers in decimal, then a byte string in hexadecimal; or what is wrong with the case. The answer is false where a write fails.
-use libc::STDOUT_FILENO;
+use std::io::Stdout;
 use wire::{Written, digit};
 
 // The length of a line that did not fit.
 const TOO_LONG: usize = usize::MAX;
 
+// Whether the bytes were written.
+fn put(to: Stdout, bytes: &[u8]) -> bool {
+    to.write_all(bytes).is_ok()
+}
+
+fn number(to: Stdout, n: u64) -> bool {
+    let mut digits = [0u8; 20];
+    let k = io::decimal(n, &mut digits);
+    put(to, &digits[..k])
+}
+
 // Adds a text to the first `at` bytes of a line. Answers how long the line is then.
-pub fn text(line: &mut [u8], at: usize, t: &[u8]) -> usize {
+fn text(line: &mut [u8], at: usize, t: &[u8]) -> usize {
     if at <= line.len() {
         if t.len() <= line.len() - at {
             wire::put_all(line, at, t);
@@ -50,43 +61,43 @@ fn hexadecimal(line: &mut [u8], at: usize, s: &[u8]) -> usize {
     n
 }
 
-pub fn line(words: &[u64], bytes: &[u8]) -> bool {
+pub fn line(to: Stdout, words: &[u64], bytes: &[u8]) -> bool {
     let mut line = io::buffer();
     let n = decimal(&mut line, words);
     let m = hexadecimal(&mut line, n, bytes);
     let k = text(&mut line, m, b"\n");
     if k == TOO_LONG {
-        return io::write_all(STDOUT_FILENO, b"line too long\n");
+        return put(to, b"line too long\n");
     }
-    io::write_all(STDOUT_FILENO, wire::front(&line, k))
+    put(to, wire::front(&line, k))
 }
 
 // Numbers alone.
-pub fn numbers(words: &[u64]) -> bool {
-    line(words, b"")
+pub fn numbers(to: Stdout, words: &[u64]) -> bool {
+    line(to, words, b"")
 }
 
 // The paper's number alone.
-pub fn refused(n: u8) -> bool {
-    line(&[n as u64], b"")
+pub fn refused(to: Stdout, n: u8) -> bool {
+    line(to, &[n as u64], b"")
 }
 
 // A writer's answer, and the whole of its output.
-pub fn written(w: Written, out: &[u8]) -> bool {
+pub fn written(to: Stdout, w: Written, out: &[u8]) -> bool {
     match w {
-        Written::Length(n) => line(&[0, n as u64], out),
-        Written::Refused(n) => line(&[n as u64], out),
+        Written::Length(n) => line(to, &[0, n as u64], out),
+        Written::Refused(n) => line(to, &[n as u64], out),
     }
 }
 
-pub fn unknown(act: u8) -> bool {
-    io::write_all(STDOUT_FILENO, b"unknown act ")
-        && io::print_decimal(STDOUT_FILENO, act as u64)
-        && io::write_all(STDOUT_FILENO, b"\n")
+pub fn unknown(to: Stdout, act: u8) -> bool {
+    put(to, b"unknown act ")
+        && number(to, act as u64)
+        && put(to, b"\n")
 }
 
 // The input ended within a case, so there is no next one.
-pub fn cut_short() -> bool {
-    io::write_all(STDOUT_FILENO, b"case cut short\n");
+pub fn cut_short(to: Stdout) -> bool {
+    put(to, b"case cut short\n");
     false
 }

@@ -1,6 +1,7 @@
 // Act 24: the summary of an archive reply's present values. Floats are told by their bits.
 ghost use Rattle.consumption.specs.Numbers.{AllNumbers};
 
+use std::io::Stdout;
 use crate::say;
 use consumption::{Answer, SummaryF32, SummaryF64, SummaryU32, SummaryU64};
 use reading::{Kind, kind_from};
@@ -44,14 +45,14 @@ fn bits64(s: SummaryF64) -> SummaryU64
     }
 }
 
-fn summary32(s: SummaryU32) -> bool {
+fn summary32(to: Stdout, s: SummaryU32) -> bool {
     let mut steps = [0u8; 228];
     let mut i = 0;
     while i < 57 {
         wire::put_le32(&mut steps, 4 * i, s.steps[i]);
         i += 1;
     }
-    say::line(
+    say::line(to, 
         &[
             0,
             s.first as u64,
@@ -64,14 +65,14 @@ fn summary32(s: SummaryU32) -> bool {
     )
 }
 
-fn summary64(s: SummaryU64) -> bool {
+fn summary64(to: Stdout, s: SummaryU64) -> bool {
     let mut steps = [0u8; 224];
     let mut i = 0;
     while i < 28 {
         wire::put_le64(&mut steps, 8 * i, s.steps[i]);
         i += 1;
     }
-    say::line(
+    say::line(to, 
         &[
             0,
             s.first,
@@ -84,51 +85,51 @@ fn summary64(s: SummaryU64) -> bool {
     )
 }
 
-fn told32(answer: Answer, s: SummaryU32) -> bool {
+fn told32(to: Stdout, answer: Answer, s: SummaryU32) -> bool {
     match answer {
-        Answer::Summary => summary32(s),
-        Answer::Refused(n) => say::refused(n),
-        Answer::RefusedAt(n, place) => say::numbers(&[n as u64, place as u64]),
+        Answer::Summary => summary32(to, s),
+        Answer::Refused(n) => say::refused(to, n),
+        Answer::RefusedAt(n, place) => say::numbers(to, &[n as u64, place as u64]),
     }
 }
 
-fn told64(answer: Answer, s: SummaryU64) -> bool {
+fn told64(to: Stdout, answer: Answer, s: SummaryU64) -> bool {
     match answer {
-        Answer::Summary => summary64(s),
-        Answer::Refused(n) => say::refused(n),
-        Answer::RefusedAt(n, place) => say::numbers(&[n as u64, place as u64]),
+        Answer::Summary => summary64(to, s),
+        Answer::Refused(n) => say::refused(to, n),
+        Answer::RefusedAt(n, place) => say::numbers(to, &[n as u64, place as u64]),
     }
 }
 
-fn f32_told(body: &[u8]) -> bool {
+fn f32_told(to: Stdout, body: &[u8]) -> bool {
     let c = consumption::read_f32(body);
     let answer = c.answer;
-    told32(answer, bits32(c.summary))
+    told32(to, answer, bits32(c.summary))
 }
 
-fn f64_told(body: &[u8]) -> bool {
+fn f64_told(to: Stdout, body: &[u8]) -> bool {
     let c = consumption::read_f64(body);
     let answer = c.answer;
-    told64(answer, bits64(c.summary))
+    told64(to, answer, bits64(c.summary))
 }
 
-fn u32_told(body: &[u8]) -> bool {
+fn u32_told(to: Stdout, body: &[u8]) -> bool {
     let c = consumption::read_u32(body);
     let answer = c.answer;
-    told32(answer, c.summary)
+    told32(to, answer, c.summary)
 }
 
-fn u64_told(body: &[u8]) -> bool {
+fn u64_told(to: Stdout, body: &[u8]) -> bool {
     let c = consumption::read_u64(body);
     let answer = c.answer;
-    told64(answer, c.summary)
+    told64(to, answer, c.summary)
 }
 
-pub fn answer(numbers: &[u8], body: &[u8]) -> bool {
+pub fn answer(to: Stdout, numbers: &[u8], body: &[u8]) -> bool {
     match kind_from(byte_at(numbers, 0)) {
-        Kind::F32 => f32_told(body),
-        Kind::F64 => f64_told(body),
-        Kind::U32 => u32_told(body),
-        Kind::U64 => u64_told(body),
+        Kind::F32 => f32_told(to, body),
+        Kind::F64 => f64_told(to, body),
+        Kind::U32 => u32_told(to, body),
+        Kind::U64 => u64_told(to, body),
     }
 }

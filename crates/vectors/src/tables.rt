@@ -1,4 +1,5 @@
 // Acts 81 to 87: the table of fair turns. Its slots are given and told as five bytes each: the address, and 1 where the slot is due.
+use std::io::Stdout;
 use crate::{say, size_at};
 use turns::{Added, Adding, Changed, Changing, Table, Turned, Turning};
 use wire::{byte_at, le32_at, rest};
@@ -107,7 +108,7 @@ fn call(act: u8, slot: usize, address: u32, t: Table) -> Outcome {
 }
 
 // The answer, the last asked slot and the slots.
-fn called(c: Outcome, out: &mut [u8]) -> bool {
+fn called(to: Stdout, c: Outcome, out: &mut [u8]) -> bool {
     let t = c.table;
     put_slots(out, t);
     let words = [
@@ -116,7 +117,7 @@ fn called(c: Outcome, out: &mut [u8]) -> bool {
         c.address as u64,
         t.last as u64,
     ];
-    say::line(&words, out)
+    say::line(to, &words, out)
 }
 
 // An answer as 13 bytes: the number, the slot, the address.
@@ -147,22 +148,22 @@ fn course(calls: &[u8], out: &mut [u8]) -> Table {
 }
 
 // The last asked slot, and what the output holds with the slots over its front.
-fn tell(t: Table, out: &mut [u8]) -> bool {
+fn tell(to: Stdout, t: Table, out: &mut [u8]) -> bool {
     put_slots(out, t);
-    say::line(&[0, t.last as u64], out)
+    say::line(to, &[0, t.last as u64], out)
 }
 
-pub fn answer(act: u8, numbers: &[u8], bytes: &[u8], out: &mut [u8]) -> bool {
+pub fn answer(to: Stdout, act: u8, numbers: &[u8], bytes: &[u8], out: &mut [u8]) -> bool {
     match act {
-        81 => tell(turns::new(), out),
+        81 => tell(to, turns::new(), out),
         87 => {
             let t = course(bytes, out);
-            tell(t, out)
+            tell(to, t, out)
         }
         _ => {
             let t = table_from(out, size_at(numbers, 0));
             let c = call(act, size_at(numbers, 8), le32_at(numbers, 8), t);
-            called(c, out)
+            called(to, c, out)
         }
     }
 }

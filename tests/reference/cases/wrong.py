@@ -14,7 +14,7 @@ WRITTEN = [1, 1, 0]
 def wrong(acts):
     """(The case's bytes, its line or None where the case is answered, and then the act, numbers and strings)."""
     for act in range(256):
-        if act not in acts and (act < 107 or act in (127, 128, 255)):
+        if act not in acts and (act < 101 or act in (127, 128, 255)):
             yield case_bytes(act, NUMBERS, STRINGS), f"unknown act {act}\n", None
             yield case_bytes(*GOOD), None, GOOD
     for length in (2045, 2046, 3000, 65535):
