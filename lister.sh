@@ -39,19 +39,17 @@ for file; do
 done
 
 command -v rt >/dev/null || fail 'the Rattle toolchain is not there (no rt on the path)'
-if [ ! -x "$here/target/bin/$program" ]; then
+made=$here/crates/$program/out/$program
+if [ ! -x "$made" ]; then
     echo "$name: proving and building the lister, once: this takes two or three minutes" >&2
     # Where only the program is gone, its stamp would keep it from being linked again.
-    rm -f "$here/target/stamp/$program"
+    rm -f "$made.stamp"
 fi
-said=$(cd "$here" && rt check "$program" 2>&1 </dev/null) || fail "$said"
+# Builds what has changed, and runs it once on no input.
+said=$(cd "$here/crates/$program" && rt run 2>&1 </dev/null) || fail "$said"
 
-# Programs are compiled for x86-64. The toolchain has the C library that they run with and, for another processor, an emulator.
-tools=$(dirname "$(dirname "$(rt doc)")")/on/$(uname -m)/toolchain
-emulator=$tools/bin/qemu-x86_64
-[ -x "$emulator" ] || emulator=
 list() {
-    $emulator "$tools/lib/ld-linux-x86-64.so.2" --library-path "$tools/lib" "$here/target/bin/$program" 3>&-
+    "$made" 3>&-
 }
 
 exec 3>&1
