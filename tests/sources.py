@@ -65,7 +65,7 @@ def blocks(path):
 def imported(text):
     """The names that `use` lines bring from specs: each with the crate and file that have it, and its name there."""
     names = {}
-    for crate, file, listed in re.findall(r"use Rattle·(\w+)(?:·specs)?\.(?:specs\.)+([\w.]+)\.\{([^}]*)\}", text):
+    for crate, file, listed in re.findall(r"use Rattle\.(\w+)\.specs\.([\w.]+)\.\{([^}]*)\}", text):
         for item in listed.split(","):
             name, _, other = item.strip().partition(" as ")
             names[other or name] = (crate, file, name)
