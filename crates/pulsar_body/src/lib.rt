@@ -1,4 +1,6 @@
 // What the bodies of requests and replies share. A body is a head of fixed fields and, in some functions, value bytes after it.
+#![tactic(auto)]
+
 ghost use Rattle.std.specs.Prelude.{◌≡◌, false, ◌*◌};
 ghost use Rattle.wire.specs.Refusal.{first};
 ghost use Rattle.reading.specs.Mask.{channel_count};

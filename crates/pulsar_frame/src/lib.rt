@@ -1,4 +1,6 @@
 // The Pulsar-M frame, read and written at the meter and at the master. What each function answers is in specs/.
+#![tactic(auto)]
+
 mod fields;
 mod master;
 mod meter;

@@ -1,4 +1,6 @@
 // The line collector: a frame buffer of 255 bytes and a count, by value. What each function answers is in specs/.
+#![tactic(auto)]
+
 ghost use Rattle.std.specs.Prelude.{◌≡◌};
 ghost use Rattle.pulsar_line.specs.Collect.{fresh, unfit, pushed, silenced};
 
@@ -47,6 +49,7 @@ fn unfit(count: usize) -> bool
 }
 
 // A byte from the line.
+#[tactic(auto, using(crate::proofs::Answers::push_unfit, crate::proofs::Answers::push_added, crate::proofs::Answers::push_dropped))]
 pub fn push(c: Collector, b: u8) -> Pushed
     ensures { result ≡ pushed c b }
 {

@@ -1,5 +1,7 @@
 // The bodies of the standard functions' replies, read and written. A body is a head of fixed fields and, in three of the functions, value
 // bytes after it; these are not copied: `reply_values` hands them back as a part of the body.
+#![tactic(auto)]
+
 mod judge;
 
 ghost use Rattle.std.specs.Prelude.{◌≡◌, length};

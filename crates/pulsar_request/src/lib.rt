@@ -1,5 +1,7 @@
 // The bodies of the standard functions' requests, read and written. A body is a head of fixed fields and, in two of the functions, value
 // bytes after it; these are not copied: `request_values` hands them back as a part of the body.
+#![tactic(auto)]
+
 mod judge;
 
 ghost use Rattle.std.specs.Prelude.{◌≡◌, length};

@@ -1,0 +1,14 @@
+-- `pulsar_body::channel_bytes` meets its contract.
+use mathlib.Core.Path.{ap}
+use Prim.Native.Nat.{ℕ, ◌*◌}
+use native.Mathlib.Omega.{arith}
+use Rattle.pulsar_body.proofs.Laws.{channel_bytes_le}
+use Rattle.pulsar_body.proofs.channel_bytes.Goals as goal
+
+pub overflow_mul-result : goal.overflow_mul-result
+overflow_mul-result c =
+    let e = ap (λ (n : ℕ). n * c.args.width) c.channel_count.ensures in
+    omega (arith, channel_bytes_le c.args.mask c.args.width c.requires)
+
+pub returns : goal.returns
+returns c = ap (λ (n : ℕ). n * c.args.width) c.channel_count.ensures

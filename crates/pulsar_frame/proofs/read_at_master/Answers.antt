@@ -1,0 +1,14 @@
+-- `pulsar_frame::read_at_master` meets its contract.
+use Rattle.pulsar_frame.specs.Reading.{read_at_master}
+use Rattle.pulsar_frame.proofs.OnItsWay.{refuses, finds}
+use Rattle.pulsar_frame.proofs.read_at_master.Goals as goal
+
+pub returns-then-n-ne0 : goal.returns-then-n-ne0
+unfolding read_at_master
+returns-then-n-ne0 c =
+    refuses c.args.bytes.now _ _ c.fault-n.ensures _ c.refused.ensures c.if-n-ne0.true
+
+pub returns : goal.returns
+unfolding read_at_master
+returns c =
+    finds c.args.bytes.now _ _ c.fault-n.ensures _ c.frame_of.ensures c.if-n-ne0.false

@@ -1,0 +1,18 @@
+-- `pulsar_request::judge::archive_fields` meets its contract.
+use Rattle.wire.proofs.Refusal.{hit, skip}
+use Rattle.pulsar_request.proofs.judge.archive_fields.Goals as goal
+
+pub returns-then-not_one : goal.returns-then-not_one
+returns-then-not_one c = search (hit, skip) depth 12
+
+pub returns-then-bad_type : goal.returns-then-bad_type
+returns-then-bad_type c = search (hit, skip) depth 12
+
+pub returns-then-not_date : goal.returns-then-not_date
+returns-then-not_date c = search (hit, skip) depth 12
+
+pub returns-then-not_date-2 : goal.returns-then-not_date-2
+returns-then-not_date-2 c = search (hit, skip) depth 12
+
+pub returns : goal.returns
+returns c = search (hit, skip) depth 12
