@@ -1,5 +1,7 @@
 // Files of ADI heat meters, read by file record: Modbus function 14 (hexadecimal). This room has the descriptor that record 0 of a file holds, and what requests and replies share.
 // What each answers is in specs/.
+#![tactic(auto)]
+
 pub mod head;
 
 ghost use Rattle.std.specs.Prelude.{◌≡◌};

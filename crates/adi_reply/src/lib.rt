@@ -1,5 +1,7 @@
 // Replies of function 14 (hexadecimal), by which ADI heat meters hand their files over: read, group by group, and written. A PDU is judged once, and then asked for the
 // register bytes of its groups by their places, from 1. What each answers is in specs/.
+#![tactic(auto)]
+
 ghost use Rattle.std.specs.Prelude.{◌≡◌, true, [], ◌+◌, ◌*◌, ◌≤◌, ◌<◌, length, get_or, take, drop};
 ghost use Rattle.std.proofs.lemmas.List.Edits.{sets};
 ghost use Rattle.wire.specs.Answer.{answered};

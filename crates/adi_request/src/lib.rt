@@ -1,5 +1,7 @@
 // Requests of function 14 (hexadecimal), by which files of ADI heat meters are read: read, group by group, and written. A PDU is judged once, and then asked for its
 // groups by their places, from 1. What each answers is in specs/.
+#![tactic(auto)]
+
 ghost use Rattle.std.specs.Prelude.{◌≡◌, ◌+◌, ◌*◌, ◌%◌, ◌≤◌, length};
 ghost use Rattle.std.proofs.lemmas.List.Edits.{sets};
 ghost use Rattle.wire.specs.InTurn.{in_turn};

@@ -1,4 +1,6 @@
 // The Modbus envelopes RTU and TCP, read and written, and what they share with ASCII. Nothing may follow an envelope. What each answers is in specs/.
+#![tactic(auto)]
+
 mod content;
 pub mod envelope;
 

@@ -1,4 +1,6 @@
 // The Modbus envelope ASCII, read and written. Nothing may follow an envelope. What each function answers is in specs/.
+#![tactic(auto)]
+
 mod hex;
 
 ghost use Rattle.std.specs.Prelude.{◌≡◌, true, ◌+◌, ◌*◌, ◌≤◌, [], ◌∷◌, ◌++◌, length, take};

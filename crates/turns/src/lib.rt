@@ -1,4 +1,6 @@
 // Fair turns on one line: a table of 32 meter slots, by value. What each call answers is in specs/.
+#![tactic(auto)]
+
 ghost use Rattle.std.specs.Prelude.{◌≡◌, false, ◌≤◌};
 ghost use Rattle.wire.specs.Refusal.{first};
 ghost use Rattle.turns.specs.Table.{

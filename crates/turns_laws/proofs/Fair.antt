@@ -18,7 +18,7 @@ use Rattle.turns.specs.declared.Table.{Table}
 use Rattle.turns.specs.declared.Added.{Added}
 use Rattle.turns.specs.declared.Changed.{Changed}
 use Rattle.turns.specs.declared.Turned.{Turned}
-use Rattle.turns.specs.declared.Turning.TheVariants.{Slot}
+use Rattle.turns.specs.declared.Turning.TheVariants.{Slot, Refused as Unturned}
 use Rattle.turns.proofs.Round.{Ahead, Between, reached, on_the_way, is_some}
 use Rattle.turns_laws.specs.Fit.{Fit}
 use Rattle.turns_laws.specs.Course.{Remove, Clear, Turn, Exchange, exchange, ByCall, of_add, of_remove, of_mark, of_clear, of_turn, Course, EachCall}
@@ -35,7 +35,7 @@ turn_accepted t f k s d = first_none (turn_rules t) (fit_is t f, (ap not (is_som
 turn_is : (t : Table) → first (turn_rules t) ≡ 0
     → turned t ≡ record { answer = Slot (next_due t) (address_of t (next_due t)); table = asked (with_due t (next_due t) false) (next_due t) }
 unfolding turned
-turn_is t z = answered_none _ _ (first (turn_rules t)) z
+turn_is t z = answered_none (λ (n : ℕ). record { answer = Unturned n; table = t }) _ (first (turn_rules t)) z
 
 -- slot k waits in t: it is due, with address a, and d + 1 steps on from the last asked
 record Due (k a d : ℕ) (t : Table) : Type 0 where

@@ -1,8 +1,0 @@
--- `modbus::bad_length` meets its contract.
--- Assumes nothing.
-use borrow.Author.Rules.{rules}
-use Rattle.modbus.proofs.bad_length.Statement.{statement}
-use Rattle.modbus.proofs.bad_length.Tie as tie
-
-pub bad-length-spec : {M : Type 1} → statement M
-bad-length-spec = tie.close (tie.spec (λ c κs. search rules) (λ c κs. search rules) (λ c. search rules) (λ c. cc))
