@@ -12,6 +12,8 @@
 //
 // After a time-out a controller may resume with another part size: the host goes on feeding. The count of the state is the place to resume
 // from (0: from START), and parts of any size up to the limit are taken there; one from below it is refused with 29, one from above it with 30.
+#![tactic(auto)]
+
 ghost use Rattle.std.specs.Prelude.{◌≡◌};
 ghost use Rattle.wire.specs.Refusal.{first};
 ghost use Rattle.sm160_receiver.specs.Receiving.{
