@@ -181,6 +181,7 @@ fn fault(state: Receiver, buffer: &[u8], frame: &[u8]) -> u8
 
 // After them the first rule of 37 to 39 that the file breaks which a last frame would end, 0 for none. The held bytes and the part are judged where
 // they stand.
+#[tactic(auto, using(crate::proofs::Steps::file_judged, crate::proofs::Steps::file_unasked))]
 fn file_fault(state: Receiver, buffer: &[u8], frame: &[u8]) -> u8
     requires { first (up_to31 state buffer.now frame.now) ≡ 0 }
     ensures { result ≡ refusal state buffer.now frame.now }
