@@ -4,7 +4,7 @@ use mathlib.Core.Path.{◌≡◌, refl, sym, ap, ap₂, ◌∙◌}
 use mathlib.Core.Bool.{false}
 use mathlib.Core.List.{List, [], ◌∷◌}
 use Prim.Native.Nat.{ℕ, ◌≤◌}
-use denote.Ref.{Bor}
+use denote.Ref.{Bor, MutBor}
 use Rattle.wire.specs.Refusal.{pick}
 use Rattle.sm160_frame.specs.Reading.{LARGEST, bad_largest}
 use Rattle.sm160_frame.proofs.Limit.{from_largest}
@@ -91,13 +91,16 @@ limit_agreed session limit b xs τ c =
 abbrev ref : {A : Type 0} → A → Bor A
 ref value = record { ref_ptr = (0, 0); now = value }
 
+abbrev mut_ref : {A : Type 0} → A → MutBor A
+mut_ref value = record { ref_ptr = (0, 0); ghost_name = 0; now = value }
+
 -- for each step there is a call that met its contract
 as_call : (σ : Side) (x : Exchange) (τ : Side) → ByStep σ x τ → ByCall σ x τ
 as_call σ x τ met =
     of_receive ([], ([], tt))
-    (σ.state, (ref x.frame, (ref σ.buffer, tt)))
+    (σ.state, (ref x.frame, (mut_ref σ.buffer, tt)))
     (record { answer = x.answer; state = τ.state })
-    (σ.state, (ref x.frame, (ref τ.buffer, tt)))
+    (σ.state, (ref x.frame, (mut_ref τ.buffer, tt)))
     met
 
 pub as_calls : (σ : Side) (xs : List Exchange) (τ : Side) → Fed ByStep σ xs τ → Fed ByCall σ xs τ

@@ -1,5 +1,7 @@
 // An SM160 datagram, which is what a file is: judged over two stretches (bytes that are held, and a part that follows them), read, and written.
 // What each function answers is in specs/.
+#![tactic(auto)]
+
 ghost use Rattle.std.specs.Prelude.{◌≡◌, ◌++◌, ◌+◌, ◌≤◌, length, take, drop};
 ghost use Rattle.std.proofs.lemmas.List.Edits.{sets};
 ghost use Rattle.wire.specs.Numbers.{of_le, field, over};

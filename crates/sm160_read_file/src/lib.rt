@@ -1,4 +1,6 @@
 // The SM160 datagrams that ask for a file (07) and bring it (87), with their options. What each function answers is in specs/.
+#![tactic(auto)]
+
 ghost use Rattle.std.specs.Prelude.{◌≡◌, ◌+◌, ◌≤◌, length};
 ghost use Rattle.std.proofs.lemmas.List.Edits.{sets};
 ghost use Rattle.wire.specs.Numbers.{over};

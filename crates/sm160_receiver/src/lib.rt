@@ -12,6 +12,8 @@
 //
 // After a time-out a controller may resume with another part size: the host goes on feeding. The count of the state is the place to resume
 // from (0: from START), and parts of any size up to the limit are taken there; one from below it is refused with 29, one from above it with 30.
+#![tactic(auto)]
+
 ghost use Rattle.std.specs.Prelude.{◌≡◌};
 ghost use Rattle.wire.specs.Refusal.{first};
 ghost use Rattle.sm160_receiver.specs.Receiving.{
@@ -179,6 +181,7 @@ fn fault(state: Receiver, buffer: &[u8], frame: &[u8]) -> u8
 
 // After them the first rule of 37 to 39 that the file breaks which a last frame would end, 0 for none. The held bytes and the part are judged where
 // they stand.
+#[tactic(auto, using(crate::proofs::Steps::file_judged, crate::proofs::Steps::file_unasked))]
 fn file_fault(state: Receiver, buffer: &[u8], frame: &[u8]) -> u8
     requires { first (up_to31 state buffer.now frame.now) ≡ 0 }
     ensures { result ≡ refusal state buffer.now frame.now }

@@ -1,5 +1,7 @@
 // The sender of a file, which is a datagram (`sm160_datagram`): one frame a call. The caller goes on at the answered place, until that is the file's
 // end. The whole file is judged at each call, since nothing is kept between two. What it answers is in specs/.
+#![tactic(auto)]
+
 ghost use Rattle.std.specs.Prelude.{◌≡◌};
 ghost use Rattle.wire.specs.Refusal.{first};
 ghost use Rattle.sm160_sender.specs.Sending.{part_at, flags_for, bad_file, past_end, no_room, place_rules, send_rules, Sends};

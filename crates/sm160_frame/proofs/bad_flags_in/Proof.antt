@@ -1,8 +1,0 @@
--- `sm160_frame::bad_flags_in` meets its contract.
--- Assumes nothing.
-use borrow.Author.Rules.{rules}
-use Rattle.sm160_frame.proofs.bad_flags_in.Statement.{statement}
-use Rattle.sm160_frame.proofs.bad_flags_in.Tie as tie
-
-pub bad-flags-in-spec : {M : Type 1} → statement M
-bad-flags-in-spec = tie.close (tie.spec (λ c κs. search rules) (λ c κs. search rules) (λ c. cc))
