@@ -187,7 +187,12 @@ fn agreement(to: Stdout, asked: &[u8], replied: &[u8]) {
 fn as_printed(to: Stdout, request: &[u8], first: &[u8], second: &[u8], third: &[u8], last: &[u8]) {
     line(to, b"session 2 as printed");
     let mut buffer = [7u8; 318];
-    let a = turn(to, opened(to, 2, AGREED), wire::front(request, 80), &mut buffer);
+    let a = turn(
+        to,
+        opened(to, 2, AGREED),
+        wire::front(request, 80),
+        &mut buffer,
+    );
     let b = turn(to, a, wire::rest(request, 80), &mut buffer);
     let c = turn(to, b, first, &mut buffer);
     let d = turn(to, c, second, &mut buffer);
@@ -233,7 +238,10 @@ fn tell_reply(to: Stdout, bytes: &[u8]) {
 }
 
 fn counted_from_start(to: Stdout, first: &[u8], second: &[u8], third: &[u8], last: &[u8]) {
-    line(to, b"counted from START, then the last again, then the first alone");
+    line(
+        to,
+        b"counted from START, then the last again, then the first alone",
+    );
     let mut buffer = [0u8; 318];
     let a = turn_rebased(to, opened(to, 2, AGREED), first, &mut buffer);
     let b = turn_rebased(to, a, second, &mut buffer);
@@ -246,7 +254,10 @@ fn counted_from_start(to: Stdout, first: &[u8], second: &[u8], third: &[u8], las
 }
 
 fn above_the_limit(to: Stdout, first: &[u8], last: &[u8]) {
-    line(to, b"at a receiver that was opened with 67, and at one with 241");
+    line(
+        to,
+        b"at a receiver that was opened with 67, and at one with 241",
+    );
     let mut buffer = [0u8; 318];
     let a = turn_rebased(to, opened(to, 2, AGREED - 1), first, &mut buffer);
     turn_rebased(to, a, last, &mut buffer);
@@ -254,7 +265,10 @@ fn above_the_limit(to: Stdout, first: &[u8], last: &[u8]) {
 }
 
 fn from_141(to: Stdout, second: &[u8], third: &[u8], last: &[u8]) {
-    line(to, b"at 141, to the end of the buffer, and the last again; then with one byte less of it");
+    line(
+        to,
+        b"at 141, to the end of the buffer, and the last again; then with one byte less of it",
+    );
     let mut buffer = [0u8; 318];
     let a = turn(to, at(141), second, &mut buffer);
     let b = turn(to, a, third, &mut buffer);
@@ -265,7 +279,10 @@ fn from_141(to: Stdout, second: &[u8], third: &[u8], last: &[u8]) {
 }
 
 fn start_again(to: Stdout, first: &[u8], second: &[u8]) {
-    line(to, b"START over a file under way, then a refused START, and the file goes on");
+    line(
+        to,
+        b"START over a file under way, then a refused START, and the file goes on",
+    );
     let mut buffer = [0u8; 318];
     let a = turn_rebased(to, opened(to, 2, AGREED), first, &mut buffer);
     let b = turn_rebased(to, a, second, &mut buffer);
@@ -339,7 +356,15 @@ fn main(rt: HostRuntime) {
     let to = rt.stdout();
     let mut all = [0u8; 467];
     read_full(rt.stdin(), &mut all);
-    agreement(to, wire::front(&all, 34), wire::front(wire::rest(&all, 34), 43));
-    feed(to, wire::front(wire::rest(&all, 77), 97), wire::rest(&all, 174));
+    agreement(
+        to,
+        wire::front(&all, 34),
+        wire::front(wire::rest(&all, 34), 43),
+    );
+    feed(
+        to,
+        wire::front(wire::rest(&all, 77), 97),
+        wire::rest(&all, 174),
+    );
     frames(to);
 }

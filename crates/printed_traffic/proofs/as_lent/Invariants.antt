@@ -1,0 +1,10 @@
+-- `printed_traffic::as_lent` is safe and ends. The measure is what is left of the bytes.
+use Prim.Native.Nat.{◌-◌}
+use lib.ListN.{length}
+use Rattle.printed_traffic.proofs.as_lent.Given as goal
+
+abbrev pub invariant-loop-i : goal.invariant-loop-i
+invariant-loop-i l = Unit {0}
+
+abbrev pub decreases-loop-i : goal.decreases-loop-i
+decreases-loop-i l = length l.buffer - l.i
