@@ -58,7 +58,7 @@ delivered_by_calls session limit b before σ file is τ c a e =
       bytes = d.bytes;
     }
 
--- And whenever completion is reported, at n, to the last of the frames xs so far: the first n bytes of the buffer are a well_formed datagram, and the joined parts of
+-- And whenever completion is reported, at n, to the last of the frames xs so far: the first n bytes of the buffer are a well-formed datagram, and the joined parts of
 -- the frames accepted from the last accepted START on, without gap or repeat.
 pub completed_by_calls : (session limit : ℕ) (b : List ℕ) (xs : List Exchange) (τ : Side) (n : ℕ)
     → Calls session limit b xs τ → EndsWith (Complete n) xs → HoldsFile session limit n τ.buffer (since_start (accepted_frames xs))

@@ -198,7 +198,7 @@ module _ (session limit : ℕ) where
 -- ---- the demand
 
 -- A receiver is opened, lent b and fed any frames. Where the last is answered with completion at n: the first n bytes of the buffer are a
--- well_formed datagram, and the joined parts of the frames accepted from the last accepted START on, without gap or repeat.
+-- well-formed datagram, and the joined parts of the frames accepted from the last accepted START on, without gap or repeat.
 pub completed : (session limit : ℕ) (b : List ℕ) (xs : List Exchange) (τ : Side) (n : ℕ)
     → Steps session limit b xs τ → EndsWith (Complete n) xs → HoldsFile session limit n τ.buffer (since_start (accepted_frames xs))
 completed session limit b xs τ n s w =

@@ -27,11 +27,11 @@ own [] = []
 own (file_frame x ∷ is) = x ∷ own is
 own (other_frame f n ∷ is) = own is
 
--- "Demand 3 then speaks of parts up to that limit", and of "a well_formed datagram, one that meets none of 37 to 39, so demand 3 speaks of such
+-- "Demand 3 then speaks of parts up to that limit", and of "a well-formed datagram, one that meets none of 37 to 39, so demand 3 speaks of such
 -- files": the file arrives in the session, for a receiver that was opened with the limit and lent the
 -- buffer b, among the items: so with only refused frames between.
 pub record Arrives (session limit : ℕ) (file b : List ℕ) (is : List Item) : Type 0 where
-  -- a well_formed datagram, and so of 18 bytes or more
+  -- a well-formed datagram, and so of 18 bytes or more
   pub datagram : datagram_fault file ≡ 0
   -- fitting the buffer; that it fits the offset field is in `carried`, where each part's place is its frame's offset
   pub fits : length file ≤ length b

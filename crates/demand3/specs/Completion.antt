@@ -26,7 +26,7 @@ keep_from kept (f ∷ fs) = keep_from (cond (is_start f) [] kept ++ (f ∷ [])) 
 abbrev pub since_start : List (List ℕ) → List (List ℕ)
 since_start fs = keep_from [] fs
 
--- The first n bytes of the buffer b are a well_formed datagram, and the joined parts of the frames, which carry them as a file is carried: without gap
+-- The first n bytes of the buffer b are a well-formed datagram, and the joined parts of the frames, which carry them as a file is carried: without gap
 -- or repeat, each part up to the limit and at its frame's offset, START on the first frame only, END on the last only.
 pub record HoldsFile (session limit n : ℕ) (b : List ℕ) (fs : List (List ℕ)) : Type 0 where
   pub datagram : datagram_fault (take n b) ≡ 0

@@ -32,7 +32,7 @@ datagram_rules d =
     ∷ 39 when compressed d
     ∷ []
 
--- the number of the first that holds; 0 for none, and then it is "a well_formed datagram, one that meets none of 37 to 39"
+-- the number of the first that holds; 0 for none, and then it is "a well-formed datagram, one that meets none of 37 to 39"
 unfoldable pub datagram_fault : List ℕ → ℕ
 datagram_fault d = first (datagram_rules d)
 

@@ -76,7 +76,7 @@ pub none_high_first : agreeing crc32Of high_first datagrams ≡ 0
 unfolding agreeing number of_le field high_bits high_from part_of joined
 none_high_first = refl
 
--- they are well_formed
+-- they are well-formed
 pub printed_datagrams : map datagram_fault datagrams ≡ 0 ∷ 0 ∷ 0 ∷ 0 ∷ []
 unfolding number of_le field crc_bits remainder crc32_from part_of joined crc32Due datagram_fault pick
 printed_datagrams = refl

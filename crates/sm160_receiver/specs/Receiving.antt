@@ -83,7 +83,7 @@ place_rules s b f =
 abbrev pub file_with : List ℕ → List ℕ → List ℕ
 file_with b f = take (offset_of f) b ++ part_of f
 
--- "The receiver now completes only a well_formed datagram, one that meets none of 37 to 39": they are asked with END only
+-- "The receiver now completes only a well-formed datagram, one that meets none of 37 to 39": they are asked with END only
 abbrev pub file_rules : List ℕ → List ℕ → List Rule
 file_rules b f = asked_if (is_end f) (datagram_rules (file_with b f))
 
