@@ -156,7 +156,7 @@ def clauses(key):
             return parameters.index(first) if first in parameters else target(first, crate, file, KNOWN[key].imports)
 
         run = []
-        for token in re.finditer(rf"{RULE.pattern}(\S+)|(\w+) \.rules\b|{WORD.pattern}", right):
+        for token in re.finditer(rf"{RULE.pattern}(\S+)|(\w+)\.rules\b|{WORD.pattern}", right):
             if token.group(1):
                 run.append(Rule(token.group(1), meant(token.group(2)) if WORD.match(token.group(2)) else None))
                 continue

@@ -119,9 +119,9 @@ fn no_address(address: u32) -> bool
 
 // Where it is not `seen`, no lower slot has the same address.
 fn unfit_slot(addresses: &[u32; 32], due: &[bool; 32], k: usize, seen: bool) -> bool
-    requires fact_1 { 1 ≤ k }
-    requires fact_2 { k ≤ 32 }
-    requires fact_3 { (seen ≡ false → held_twice addresses.now k ≡ false) }
+    requires from_first { 1 ≤ k }
+    requires to_last { k ≤ 32 }
+    requires unseen_once { (seen ≡ false → held_twice addresses.now k ≡ false) }
     ensures { result ≡ unfit_slot addresses.now due.now k }
 {
     let a = addresses[k - 1];

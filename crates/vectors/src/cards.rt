@@ -1,5 +1,4 @@
 // Acts 50, 51, 53 to 56 and 59: the reading card in both forms, its moves, and the numbers of archives.
-use std::io::Stdout;
 use crate::say;
 use archive::{Source, source_from, source_number, type_from, type_number};
 use archive_card::{
@@ -8,6 +7,7 @@ use archive_card::{
 use card::{Card, CardRead, read_card, write_card};
 use card_text::Form;
 use reading::{bits, kind_from, kind_of, number_of, of_bits};
+use std::io::Stdout;
 use wire::{Written, byte_at, le16_at, le32_at, le64_at};
 
 // The archive kind is the last word, which a card of 17 bytes has not.

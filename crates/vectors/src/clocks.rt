@@ -1,8 +1,8 @@
 // Act 60: the meter's clock beside the cabinet's.
-use std::io::Stdout;
 use crate::say;
 use clock::{Difference, clock_difference};
 use date::date_at;
+use std::io::Stdout;
 
 // The sign, 1 for negative, and the size, which for the least i64 is no i64.
 fn seconds(to: Stdout, z: i64) -> bool {

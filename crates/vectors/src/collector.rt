@@ -1,7 +1,7 @@
 // Acts 14 and 15: the line collector.
-use std::io::Stdout;
 use crate::{say, size_at};
 use pulsar_line::{Answer, Collector, new, push, silence};
+use std::io::Stdout;
 use wire::{byte_at, front};
 
 // The bytes of a line, one after another.
@@ -24,7 +24,14 @@ fn handed(to: Stdout, c: Collector) -> bool {
 }
 
 // What each of the two calls answers, the count that it leaves or hands over, and how many bytes lack.
-fn both(to: Stdout, pushed: Answer, after: usize, silent: Answer, over: usize, missing: usize) -> bool {
+fn both(
+    to: Stdout,
+    pushed: Answer,
+    after: usize,
+    silent: Answer,
+    over: usize,
+    missing: usize,
+) -> bool {
     match pushed {
         Answer::Done => match silent {
             Answer::Done => say::numbers(to, &[0, after as u64, 0, over as u64, missing as u64]),
@@ -53,7 +60,8 @@ pub fn answer(to: Stdout, act: u8, numbers: &[u8], bytes: &[u8]) -> bool {
     if act == 14 {
         handed(to, collected(bytes))
     } else {
-        lent(to, 
+        lent(
+            to,
             size_at(numbers, 0),
             byte_at(numbers, 8),
             byte_at(numbers, 16),

@@ -1,8 +1,8 @@
 // Acts 71 to 80: SM160 datagrams, and the read-file request and reply.
-use std::io::Stdout;
 use crate::{say, size_at};
 use sm160_datagram::{DatagramRead, data_of, options_of, read_datagram};
 use sm160_read_file::{ReplyRead, RequestRead};
+use std::io::Stdout;
 use wire::{Written, byte_at, front, le32_at, le64_at, rest};
 
 // Act 72: with the options.
@@ -32,7 +32,8 @@ fn with_data(to: Stdout, bytes: &[u8]) -> bool {
 
 fn request(to: Stdout, bytes: &[u8]) -> bool {
     match sm160_read_file::read_request(bytes) {
-        RequestRead::Request { offset, size } => say::line(to, 
+        RequestRead::Request { offset, size } => say::line(
+            to,
             &[0, offset, size],
             sm160_read_file::name_of(bytes),
         ),
@@ -128,7 +129,8 @@ pub fn answer(to: Stdout, act: u8, numbers: &[u8], bytes: &[u8], out: &mut [u8])
     match act {
         71 => say::refused(to, sm160_datagram::datagram_fault(bytes, out)),
         72 | 73 | 75 | 77 => read(to, act, bytes),
-        79 => long(to, 
+        79 => long(
+            to,
             byte_at(numbers, 0),
             size_at(numbers, 8),
             size_at(numbers, 16),

@@ -1,13 +1,14 @@
 // Acts 30 to 35: Modbus envelopes.
-use std::io::Stdout;
 use crate::say;
 use modbus::{RtuRead, TcpRead};
 use modbus_ascii::AsciiRead;
+use std::io::Stdout;
 use wire::{byte_at, le16_at};
 
 fn rtu(to: Stdout, bytes: &[u8]) -> bool {
     match modbus::read_rtu(bytes) {
-        RtuRead::Rtu(r) => say::line(to, 
+        RtuRead::Rtu(r) => say::line(
+            to,
             &[0, r.address as u64, r.function as u64],
             modbus::rtu_data(bytes),
         ),

@@ -1,8 +1,8 @@
 // Acts 98 and 99: an ADI request in its envelope, and the reply to it.
-use std::io::Stdout;
 use crate::{say, size_at};
 use adi_request::{AskedAt, RequestRead};
 use modbus::{RtuRead, TcpRead};
+use std::io::Stdout;
 use wire::{Written, front, rest};
 
 // How many bytes a group asks for; 0 where one byte cannot tell them.

@@ -1,9 +1,9 @@
 // Acts 90 to 97: ADI file records, asked for and brought, and the descriptor.
-use std::io::Stdout;
 use crate::{say, size_at};
 use adi::DescriptorRead;
 use adi_reply::ReplyRead;
 use adi_request::{AskedAt, RequestRead};
+use std::io::Stdout;
 use wire::{Written, byte_at, front, le16_at, rest};
 
 fn request(to: Stdout, pdu: &[u8]) -> bool {
@@ -96,7 +96,11 @@ fn read(to: Stdout, act: u8, numbers: &[u8], bytes: &[u8]) -> bool {
         90 => request(to, bytes),
         91 => asked(to, bytes, size_at(numbers, 0)),
         93 => reply(to, bytes),
-        94 => say::line(to, &[0], adi_reply::registers_at(bytes, size_at(numbers, 0))),
+        94 => say::line(
+            to,
+            &[0],
+            adi_reply::registers_at(bytes, size_at(numbers, 0)),
+        ),
         _ => descriptor(to, bytes),
     }
 }

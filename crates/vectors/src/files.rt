@@ -1,8 +1,8 @@
 // Acts 40 to 42: SM160 frames and the sender.
-use std::io::Stdout;
 use crate::{say, size_at};
 use sm160_frame::FrameRead;
 use sm160_sender::Sent;
+use std::io::Stdout;
 use wire::{le16_at, le32_at};
 
 fn frame(to: Stdout, bytes: &[u8]) -> bool {

@@ -1,7 +1,7 @@
 // Acts 10 to 13: Pulsar-M frames.
-use std::io::Stdout;
 use crate::say;
 use pulsar_frame::{FrameRead, payload, read_at_master, read_at_meter, write_reply, write_request};
+use std::io::Stdout;
 use wire::{byte_at, le16_at, le32_at};
 
 fn frame(to: Stdout, r: FrameRead, bytes: &[u8]) -> bool {

@@ -1,8 +1,8 @@
 // Acts 52, 57 and 58: the line of a card or of a refusal, and the lines of many cards.
-use std::io::Stdout;
 use crate::say;
 use card_lines::{entry_of, put_lines};
 use card_text::{Entry, Form, put_line};
+use std::io::Stdout;
 use wire::{Written, byte_at};
 
 // The line of a refusal and, for 0, of a card.

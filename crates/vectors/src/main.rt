@@ -98,7 +98,14 @@ fn read_part(from: Stdin, buffer: &mut [u8], n: usize) -> bool {
 }
 
 // Answers a case whose second byte string, which its call may change, is the first n bytes of a buffer.
-fn answer_into(to: Stdout, act: u8, numbers: &[u8], bytes: &[u8], buffer: &mut [u8], n: usize) -> bool {
+fn answer_into(
+    to: Stdout,
+    act: u8,
+    numbers: &[u8],
+    bytes: &[u8],
+    buffer: &mut [u8],
+    n: usize,
+) -> bool {
     if n <= buffer.len() {
         answer(to, act, numbers, bytes, &mut buffer[..n])
     } else {
@@ -125,7 +132,8 @@ fn answer_one(from: Stdin, to: Stdout, given: &mut [u8], out: &mut [u8]) -> bool
     if !read_part(from, out, k) {
         return say::cut_short(to);
     }
-    answer_into(to, 
+    answer_into(
+        to,
         byte_at(&head, 0),
         front(given, n),
         rest(front(given, m), n),

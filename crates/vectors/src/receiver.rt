@@ -1,7 +1,7 @@
 // Acts 43 and 44: the SM160 receiver, and its opening.
-use std::io::Stdout;
 use crate::{say, size_at};
 use sm160_receiver::{Answer, Opening, Receiver};
+use std::io::Stdout;
 use wire::{byte_at, le16_at};
 
 fn received(to: Stdout, a: Answer, s: Receiver, buffer: &[u8]) -> bool {
@@ -10,8 +10,13 @@ fn received(to: Stdout, a: Answer, s: Receiver, buffer: &[u8]) -> bool {
     let under_way = s.under_way as u64;
     let count = s.count as u64;
     match a {
-        Answer::Held(n) => say::line(to, &[0, 0, n as u64, session, limit, under_way, count], buffer),
-        Answer::Complete(n) => say::line(to, 
+        Answer::Held(n) => say::line(
+            to,
+            &[0, 0, n as u64, session, limit, under_way, count],
+            buffer,
+        ),
+        Answer::Complete(n) => say::line(
+            to,
             &[0, 1, n as u64, session, limit, under_way, count],
             buffer,
         ),
@@ -21,13 +26,16 @@ fn received(to: Stdout, a: Answer, s: Receiver, buffer: &[u8]) -> bool {
 
 fn opened(to: Stdout, opening: Opening) -> bool {
     match opening {
-        Opening::Ready(s) => say::numbers(to, &[
-            0,
-            s.session as u64,
-            s.limit as u64,
-            s.under_way as u64,
-            s.count as u64,
-        ]),
+        Opening::Ready(s) => say::numbers(
+            to,
+            &[
+                0,
+                s.session as u64,
+                s.limit as u64,
+                s.under_way as u64,
+                s.count as u64,
+            ],
+        ),
         Opening::Refused(n) => say::refused(to, n),
     }
 }
@@ -48,7 +56,10 @@ fn frame(to: Stdout, numbers: &[u8], bytes: &[u8], buffer: &mut [u8]) -> bool {
 pub fn answer(to: Stdout, act: u8, numbers: &[u8], bytes: &[u8], buffer: &mut [u8]) -> bool {
     match act {
         43 => frame(to, numbers, bytes, buffer),
-        44 => opened(to, sm160_receiver::open(le16_at(numbers, 0), size_at(numbers, 8))),
+        44 => opened(
+            to,
+            sm160_receiver::open(le16_at(numbers, 0), size_at(numbers, 8)),
+        ),
         _ => say::unknown(to, act),
     }
 }

@@ -1,8 +1,8 @@
 // Acts 21 and 23: reply bodies.
-use std::io::Stdout;
 use crate::{say, size_at};
 use date::{DateTime, date_at, is_no_date};
 use pulsar_reply::{ArchiveReply, Reply, ReplyRead};
+use std::io::Stdout;
 use wire::{byte_at, le32_at};
 
 fn clock(to: Stdout, function: u64, d: DateTime) -> bool {

@@ -1,9 +1,9 @@
 // Acts 20 and 22: request bodies.
-use std::io::Stdout;
 use crate::{say, size_at};
 use archive::{type_from, type_number};
 use date::{DateTime, date_at};
 use pulsar_request::{ArchiveRequest, Request, RequestRead};
+use std::io::Stdout;
 use wire::{byte_at, le16_at, le32_at};
 
 fn clock(to: Stdout, function: u64, d: DateTime) -> bool {

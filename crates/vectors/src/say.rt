@@ -91,9 +91,7 @@ pub fn written(to: Stdout, w: Written, out: &[u8]) -> bool {
 }
 
 pub fn unknown(to: Stdout, act: u8) -> bool {
-    put(to, b"unknown act ")
-        && number(to, act as u64)
-        && put(to, b"\n")
+    put(to, b"unknown act ") && number(to, act as u64) && put(to, b"\n")
 }
 
 // The input ended within a case, so there is no next one.

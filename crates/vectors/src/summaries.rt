@@ -1,10 +1,10 @@
 // Act 24: the summary of an archive reply's present values. Floats are told by their bits.
 ghost use Rattle.consumption.specs.Numbers.{AllNumbers};
 
-use std::io::Stdout;
 use crate::say;
 use consumption::{Answer, SummaryF32, SummaryF64, SummaryU32, SummaryU64};
 use reading::{Kind, kind_from};
+use std::io::Stdout;
 use wire::byte_at;
 
 fn bits32(s: SummaryF32) -> SummaryU32
@@ -52,7 +52,8 @@ fn summary32(to: Stdout, s: SummaryU32) -> bool {
         wire::put_le32(&mut steps, 4 * i, s.steps[i]);
         i += 1;
     }
-    say::line(to, 
+    say::line(
+        to,
         &[
             0,
             s.first as u64,
@@ -72,7 +73,8 @@ fn summary64(to: Stdout, s: SummaryU64) -> bool {
         wire::put_le64(&mut steps, 8 * i, s.steps[i]);
         i += 1;
     }
-    say::line(to, 
+    say::line(
+        to,
         &[
             0,
             s.first,

@@ -1,6 +1,6 @@
 // Acts 81 to 87: the table of fair turns. Its slots are given and told as five bytes each: the address, and 1 where the slot is due.
-use std::io::Stdout;
 use crate::{say, size_at};
+use std::io::Stdout;
 use turns::{Added, Adding, Changed, Changing, Table, Turned, Turning};
 use wire::{byte_at, le32_at, rest};
 

@@ -1,12 +1,5 @@
 -- `card_text::put_time` meets its contract.
-use mathlib.Core.Path.{ap, ◌∙◌}
-use mathlib.Core.List.{◌++◌}
 use native.Mathlib.Omega.{arith}
-use lib.ListN.{length}
-use lib.Seq.{length-sets}
-use Rattle.wire.specs.Digits.{ascii}
-use Rattle.card_text.specs.Text.{Stored}
-use Rattle.card_text.specs.Line.{time_text}
 use Rattle.card_text.proofs.Text.{stored_then, stored_as}
 use Rattle.card_text.proofs.Line.{time_text_lem}
 use Rattle.card_text.proofs.put_time.Goals as goal

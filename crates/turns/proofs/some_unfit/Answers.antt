@@ -9,8 +9,8 @@ use Rattle.turns.proofs.some_unfit.Goals as goal
 pub loop-k-init : goal.loop-k-init
 loop-k-init c = (omega arith, ap (first_of _) (same_way 0 32 32 refl), none_seen _ _ refl)
 
-pub unfit_slot-requires-clause-fact_3 : goal.unfit_slot-requires-clause-fact_3
-unfit_slot-requires-clause-fact_3 c = not_seen _ _ _ c.loop-k-test.true c.loop-k.invariant.2
+pub unfit_slot-requires-clause-unseen_once : goal.unfit_slot-requires-clause-unseen_once
+unfit_slot-requires-clause-unseen_once c = not_seen _ _ _ c.loop-k-test.true c.loop-k.invariant.2
 
 pub returns-then-unfit_slot : goal.returns-then-unfit_slot
 returns-then-unfit_slot c = found_some _ _ (found_up _ _ _ c.loop-k.invariant.1 c.loop-k-test.true (sym c.unfit_slot.ensures ∙ c.if-unfit_slot.true))

@@ -15,4 +15,4 @@ returns-then-seen c =
     ∙ address_slot _ _ _ (sym c.no_address.ensures ∙ c.if-no_address.false)
 
 pub returns : goal.returns
-returns c = alone_slot _ _ _ (sym c.no_address.ensures ∙ c.if-no_address.false) (c.requires.fact_3 c.if-seen.false)
+returns c = alone_slot _ _ _ (sym c.no_address.ensures ∙ c.if-no_address.false) (c.requires.unseen_once c.if-seen.false)
