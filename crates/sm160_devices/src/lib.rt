@@ -1,4 +1,6 @@
 // Writing the device list, a line a call: <r D="prefix" K="kind" S="serial number" /> and a line feed. What a line is, is in sm160_text.
+#![tactic(auto)]
+
 ghost use Rattle.std.specs.Prelude.{◌≡◌, ◌+◌, ◌≤◌, ◌<◌, ◌^◌, length};
 ghost use Rattle.std.proofs.lemmas.List.Edits.{sets};
 ghost use Rattle.wire.specs.Refusal.{first};

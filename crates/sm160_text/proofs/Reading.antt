@@ -1,9 +1,8 @@
 -- What a line is answered with, as the code judges it: the end, a refusal, a record.
 -- Assumes nothing.
-use mathlib.Core.Path.{◌≡◌, refl, sym, ap, ap₂, ◌∙◌}
-use mathlib.Core.Bool.{Bool, true, false}
+use mathlib.Core.Path.{◌≡◌, refl, sym, ap, ◌∙◌}
 use mathlib.Core.List.{List}
-use Prim.Native.Nat.{ℕ, zero, suc, ◌≤◌, ◌<◌}
+use Prim.Native.Nat.{ℕ, ◌≤◌, ◌<◌}
 use lib.Dec.{leb}
 use lib.ListN.{length}
 use borrow.Author.Tests.{le-leb, lt-leb}
@@ -14,7 +13,7 @@ use Rattle.sm160_text.specs.declared.Position.{Position}
 use Rattle.sm160_text.specs.declared.Optional.{Optional}
 use Rattle.sm160_text.specs.Position.{position}
 use Rattle.sm160_text.specs.Grammar.{Attribute, line_at, texts_in}
-use Rattle.sm160_text.specs.Line.{seen, Answer, Record, End, Refused, Read, judged, read_line}
+use Rattle.sm160_text.specs.Line.{Record, End, Refused, Read, judged, read_line}
 use Rattle.sm160_text.specs.Walk.{ReadsLine}
 use Rattle.sm160_text.proofs.Places.{cond_true, cond_false}
 

@@ -9,7 +9,7 @@ use lib.Dec.{T}
 use lib.ListN.{get_or}
 use Rattle.wire.specs.Answer.{answered}
 use Rattle.wire.specs.Digits.{ascii}
-use Rattle.wire.specs.Refusal.{Rule, ◌when◌, pick, first, numbered}
+use Rattle.wire.specs.Refusal.{pick, first, numbered}
 use Rattle.wire.specs.InTurn.{in_turn, first_faulty}
 use Rattle.wire.proofs.Bools.{no_and}
 use Rattle.wire.proofs.InTurn.{turn_decides, turn_passes}
@@ -18,7 +18,7 @@ use Rattle.sm160_text.specs.declared.Span.{Span}
 use Rattle.sm160_text.specs.declared.Optional.{Optional}
 use Rattle.sm160_text.specs.declared.Optional.TheVariants.{Absent, Text}
 use Rattle.sm160_text.specs.Text.{is_at, text_end, text_at}
-use Rattle.sm160_text.specs.Grammar.{Attribute, needed, optional, Part, tag, name, quotes, end, number_of, Next, sign, slash, text, absent, signs, the_tag, attribute, the_end, is_here, letter_of, past, past_all, comes, line_at, is_letter, rules_at, Placed, placed, place_rules, texts_in}
+use Rattle.sm160_text.specs.Grammar.{Attribute, needed, optional, Part, tag, name, quotes, end, number_of, Next, sign, slash, text, absent, signs, the_tag, attribute, is_here, letter_of, past, past_all, comes, line_at, is_letter, rules_at, Placed, placed, place_rules, texts_in}
 use Rattle.sm160_text.specs.Line.{seen, text_no}
 use Rattle.sm160_text.specs.Walk.{good, characters, onward, expect, read_end, comes_of, Reads, ReadsLine}
 use Rattle.sm160_text.proofs.Places.{cond_true, cond_false}

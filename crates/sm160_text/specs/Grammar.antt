@@ -1,7 +1,6 @@
 -- A line of both files, <r A="text" B="text" /> and a line feed, as a list of what comes next.
 -- Assumes nothing.
 use Rattle.std.specs.Prelude.{ℕ, ◌+◌, Bool, true, not, ◌&&◌, ◌||◌, cond, List, [], ◌∷◌, ◌++◌, map, ltb, get_or}
-use Prim.Native.Char.{code}
 use Prim.Native.String as S
 use Rattle.wire.specs.Digits.{ascii}
 use Rattle.wire.specs.Refusal.{Rule, ◌when◌}

@@ -6,7 +6,7 @@ use Rattle.wire.specs.Refusal.{Rule, first}
 use Rattle.wire.specs.InTurn.{in_turn, first_faulty}
 use Rattle.wire.specs.Told.{Told, accepted, refused_with}
 use Rattle.sm160_text.specs.Position.{position}
-use Rattle.sm160_text.specs.Grammar.{Attribute, archive, device_list, Next, absent, line_at, past_all, Placed, placed, place_rules, texts_in}
+use Rattle.sm160_text.specs.Grammar.{Attribute, archive, device_list, Next, absent, line_at, past_all, placed, place_rules, texts_in}
 use Rattle.sm160_text.specs.declared.Span.{Span}
 use Rattle.sm160_text.specs.declared.Seen.{Seen}
 use Rattle.sm160_text.specs.declared.Position.{Position}

@@ -1,7 +1,6 @@
 -- What stands at a place of a file, and the text from a place up to what ends it.
 -- Assumes nothing.
 use Rattle.std.specs.Prelude.{ℕ, suc, ◌+◌, ◌-◌, Bool, false, ◌||◌, cond, List, [], ◌∷◌, eqb, take, drop}
-use Prim.Native.String as S
 use Rattle.sm160_text.specs.declared.Span.{Span}
 
 abbrev pub blank : ℕ

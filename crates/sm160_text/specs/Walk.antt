@@ -3,12 +3,10 @@
 use Rattle.std.specs.Prelude.{◌≡◌, ℕ, ◌+◌, cond, List, [], ◌∷◌}
 use Rattle.wire.specs.Answer.{answered}
 use Rattle.sm160_text.specs.Text.{is_at}
-use Rattle.sm160_text.specs.Grammar.{Attribute, archive, device_list, Next, absent, attribute, the_end, letter_of, is_here, line_at, texts_in}
-use Rattle.sm160_text.specs.Line.{seen, archive_record, device_record, text_no}
+use Rattle.sm160_text.specs.Grammar.{Attribute, Next, absent, attribute, the_end, letter_of, is_here, line_at, texts_in}
+use Rattle.sm160_text.specs.Line.{seen, text_no}
 use Rattle.sm160_text.specs.declared.Seen.{Seen}
 use Rattle.sm160_text.specs.declared.Optional.{Optional}
-use Rattle.sm160_text.specs.declared.ArchiveRecord.{ArchiveRecord}
-use Rattle.sm160_text.specs.declared.DeviceRecord.{DeviceRecord}
 
 abbrev pub good : ℕ → Seen
 good p = record { number = 0; place = p }

@@ -3,6 +3,8 @@
 //
 // A host reads a file with a line reader (`new`, then `next_record` or `next_device` until the end), or, without one, from place to place
 // (`read_record`, `read_device`). A refused line is not skipped: the reader's place stays before it.
+#![tactic(auto)]
+
 ghost use Rattle.std.specs.Prelude.{◌≡◌, ◌&&◌, ◌+◌, ◌<◌, ◌≤◌, ◌^◌, length, get_or};
 ghost use Rattle.sm160_text.specs.Text.{is_at, ends_text, text_end, text_of, blank};
 ghost use Rattle.sm160_text.specs.Position.{position};
