@@ -1,19 +1,10 @@
 -- `sm160_sender::send` meets its contract.
-use mathlib.Core.Path.{ap}
 use native.Mathlib.Omega.{arith}
-use lib.ListN.{length}
-use Rattle.sm160_sender.proofs.Parts.{length_part}
 use Rattle.sm160_sender.proofs.Answers.{able, sends_refused, sends_frame}
 use Rattle.sm160_sender.proofs.send.Goals as goal
 
 pub returns-then-number-ne0 : goal.returns-then-number-ne0
 returns-then-number-ne0 c = sends_refused _ _ _ _ _ _ c.send_fault-number.ensures c.if-number-ne0.true
-
-pub overflow_add-next : goal.overflow_add-next
-overflow_add-next c =
-    let a = c.args in
-    let g = able a.file.now a.session a.largest a.place a.out.now _ c.send_fault-number.ensures c.if-number-ne0.false in
-    omega (arith, g.small, (length_part a.file.now a.largest a.place g).2, ap length c.part_at-part.ensures)
 
 pub overflow_cast-place : goal.overflow_cast-place
 overflow_cast-place c =
