@@ -16,7 +16,7 @@ import sys
 
 DECLARED = re.compile(
     r"^\s*(?:(?:pub|abbrev|unfoldable|opaque|data)\s+)*"
-    r"([^\s:{}()\[\],;.λ]+)(?:\s+(?:\{[^{}]*\}|\([^()]*\)))*\s*:\s"
+    r"([^\s:{}()\[\],;.λ]+)(?:\s+(?:\{[^{}]*\}|\([^()]*\)))*\s*:(?:\s|$)"
 )
 TOKEN = re.compile(r"[^\s(){}\[\],;.:\"«»@#|`]+")
 USE = re.compile(r"\buse\s+([\w.]+?)\.\{([^}]*)\}", re.S)

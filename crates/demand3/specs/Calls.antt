@@ -1,5 +1,5 @@
 -- Calls of the receiver's functions. Of each is known that it met its contract, as the source states it: `Post` is made from the source, and
--- `lent_read` reads the source's clause of `receive_lent`, of which no `Post` is made.
+-- `lent_read` reads the source's clause of `receive_lent`, of which the older kit made no `Post`.
 -- Assumes nothing.
 use Rattle.std.specs.Prelude.{ℕ, List}
 use borrow.Fn.Claims.{AllOf}

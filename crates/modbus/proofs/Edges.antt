@@ -12,32 +12,32 @@ use Rattle.modbus.specs.Tcp.{tcp_head, tcp, tcp_rules}
 use Rattle.modbus.specs.Printed.{all_read, printed}
 
 -- under 4 and above 256 bytes; between, zeros have a wrong CRC
-pub rtu-lengths :
+pub rtu_lengths :
     (first (rtu_rules (replicate 3 0)) ≡ 40) × (first (rtu_rules (replicate 4 0)) ≡ 44) × (first (rtu_rules (replicate 256 0)) ≡ 44) × (first (rtu_rules (replicate 257 0)) ≡ 41)
 unfolding pick of_le number field remainder crc_bits
-rtu-lengths = (refl, refl, refl, refl)
+rtu_lengths = (refl, refl, refl, refl)
 
 -- under 8 and above 260 bytes; between, zeros have a wrong length
-pub tcp-lengths :
+pub tcp_lengths :
     (first (tcp_rules (replicate 7 0)) ≡ 40) × (first (tcp_rules (replicate 8 0)) ≡ 43) × (first (tcp_rules (replicate 260 0)) ≡ 43) × (first (tcp_rules (replicate 261 0)) ≡ 41)
 unfolding pick of_be number field
-tcp-lengths = (refl, refl, refl, refl)
+tcp_lengths = (refl, refl, refl, refl)
 
 -- data of 252 bytes in outputs of 256 and 255, of 253 in an output of 255
-pub rtu-rooms :
+pub rtu_rooms :
     (first (write_rules (replicate 252 0) (length (bytes_of rtu (message 1 3 (replicate 252 0)))) (replicate 256 0)) ≡ 0)
     × (first (write_rules (replicate 252 0) (length (bytes_of rtu (message 1 3 (replicate 252 0)))) (replicate 255 0)) ≡ 16)
     × (first (write_rules (replicate 253 0) (length (bytes_of rtu (message 1 3 (replicate 253 0)))) (replicate 255 0)) ≡ 17)
 unfolding pick bytes_of le digits
-rtu-rooms = (refl, refl, refl)
+rtu_rooms = (refl, refl, refl)
 
 -- the same in outputs of 260 and 259
-pub tcp-rooms :
+pub tcp_rooms :
     (first (write_rules (replicate 252 0) (length (bytes_of (tcp 1) (message 2 3 (replicate 252 0)))) (replicate 260 0)) ≡ 0)
     × (first (write_rules (replicate 252 0) (length (bytes_of (tcp 1) (message 2 3 (replicate 252 0)))) (replicate 259 0)) ≡ 16)
     × (first (write_rules (replicate 253 0) (length (bytes_of (tcp 1) (message 2 3 (replicate 253 0)))) (replicate 259 0)) ≡ 17)
 unfolding pick bytes_of tcp_head be digits
-tcp-rooms = (refl, refl, refl)
+tcp_rooms = (refl, refl, refl)
 
 pub printed_packets_read : T (all_read printed)
 unfolding pick of_be number field

@@ -45,11 +45,11 @@ unfolding agreeing number of_le field crc_bits remainder
 none_from_FFFF = refl
 
 -- none with CRC-16-CCITT, from 0000 or FFFF, with the CRC16 or the flags taken as zero
-pub none-by-text :
+pub none_by_text :
     (agreeing crc_of (ccitt 0 8) printed ≡ 0) × (agreeing crc_of (ccitt 0xFFFF 8) printed ≡ 0)
     × (agreeing crc_of (ccitt 0 10) printed ≡ 0) × (agreeing crc_of (ccitt 0xFFFF 10) printed ≡ 0)
 unfolding agreeing number of_le field ccitt_bits ccitt_from
-none-by-text = (refl, refl, refl, refl)
+none_by_text = (refl, refl, refl, refl)
 
 -- QA 1, START 2, END 4: 001's comments beside the frames name these; the three frames with QA are the master's
 pub printed_flags : map flags_of printed ≡ 7 ∷ 6 ∷ 3 ∷ 5 ∷ 2 ∷ 0 ∷ 0 ∷ 4 ∷ []
@@ -66,11 +66,11 @@ pub all_datagrams_agree : agreeing crc32Of crc32Due datagrams ≡ 4
 unfolding agreeing number of_le field crc_bits remainder crc32_from part_of joined crc32Due
 all_datagrams_agree = refl
 
-pub none-otherwise :
+pub none_otherwise :
     (agreeing crc32Of over_length datagrams ≡ 0) × (agreeing crc32Of over_options datagrams ≡ 0) × (agreeing crc32Of over_data datagrams ≡ 0)
     × (agreeing crc32Of from_zero datagrams ≡ 0) × (agreeing crc32Of unturned datagrams ≡ 0)
 unfolding agreeing number of_le field crc_bits remainder crc32_from part_of joined
-none-otherwise = (refl, refl, refl, refl, refl)
+none_otherwise = (refl, refl, refl, refl, refl)
 
 pub none_high_first : agreeing crc32Of high_first datagrams ≡ 0
 unfolding agreeing number of_le field high_bits high_from part_of joined

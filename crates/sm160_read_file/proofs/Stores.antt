@@ -39,10 +39,10 @@ module _ (offset size : ℕ) (name out : List ℕ) where
   abbrev H : List ℕ
   H = opening_bytes REQUEST (length name + 19)
 
-  pub stored-request :
+  pub stored_request :
       sets (sets (sets (sets out 0 H) 6 (le 8 offset)) 14 (le 8 size)) 22 (text_bytes name) ≡ sets out 0 (covered_bytes REQUEST Q [])
   unfolding covered_bytes request_options
-  stored-request =
+  stored_request =
       let six = length_opening REQUEST (length name + 19) in
       let fourteen : length (H ++ le 8 offset) ≡ 14 = length-append H (le 8 offset) ∙ ap₂ (λ (x y : ℕ). x + y) six (length_le 8 offset) in
       let more : length (H ++ (le 8 offset ++ le 8 size)) ≡ 22 =
@@ -68,10 +68,10 @@ module _ (status : ℕ) (message content out : List ℕ) where
   abbrev G : List ℕ
   G = opening_bytes REPLY (length message + 7)
 
-  pub stored-reply :
+  pub stored_reply :
       sets (sets (sets (sets out 0 G) 6 (le 4 status)) 10 (text_bytes message)) (length message + 13) content ≡ sets out 0 (covered_bytes REPLY P content)
   unfolding covered_bytes reply_options
-  stored-reply =
+  stored_reply =
       let six = length_opening REPLY (length message + 7) in
       let ten : length (G ++ le 4 status) ≡ 10 = length-append G (le 4 status) ∙ ap₂ (λ (x y : ℕ). x + y) six (length_le 4 status) in
       let more : length (G ++ P) ≡ length message + 13 = length-append G P ∙ omega (arith, six, length_reply status message) in

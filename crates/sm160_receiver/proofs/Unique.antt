@@ -36,7 +36,7 @@ pub receive_plain_unique : Unique {Y = λ κs. Received × List ℕ} receive-pla
 receive_plain_unique κs a r r' s s' e e' =
     ap (λ (o : After). (record { answer = o.answer; state = o.state }, o.buffer)) (once _ _ _ _ _ _ _ _ _ e e')
 
--- ---- the toolchain makes no reading of a contract with a lent struct: the source's clause, read as the made ones read the others'
+-- ---- the older kit made no reading of a contract with a lent struct: the source's clause, read as the made ones read the others'
 abbrev pub lent_read : (κs : Lfts 3) (a : ArgsD lent.signature κs) (r : ResD lent.signature κs) (s : AtExit lent.ended κs)
     → Read (λ w. emp w.𝓤) no_know (λ w. (lent.clauses w.𝓛 w.𝓜.mem w.𝓡.run κs a).ensures tt r s)
 lent_read κs a r s = all_models _ (λ w. r_last _) (λ w. refl) (λ w. refl) (λ w. refl)
