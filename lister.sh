@@ -18,7 +18,7 @@ fail() {
     exit "${2:-1}"
 }
 
-# The program has no status of its own, so what it says on standard error is a failure. A reader that has gone away ends it without a word.
+# What the program says on standard error is a failure. A reader that has gone away ends it without a word, with a status of its own.
 judge() {
     status=$?
     [ -z "$said" ] || fail "${1:+$1: }$said"
