@@ -135,53 +135,86 @@ def atoms(text):
 
 class Rule(NamedTuple):
     """A number with its condition; a list that is taken in (with no number), with its arguments; or the lists that a form of the card names ("form"). A name is a
-    definition, or the place of a parameter."""
+    definition, or the place of a parameter, which the caller gives."""
     number: str
     name: object
     arguments: tuple = ()
 
 
-def clauses(key):
-    """What a rule list says: the rules of each clause."""
-    crate, file, name = key
-    for clause in re.split(rf"^{re.escape(name)} ", KNOWN[key].body, flags=re.M):
-        if not clause.strip():
-            continue
-        left, _, right = clause.partition("=")
-        parameters = atoms(left)
+class Listed(NamedTuple):
+    """A rule list, with the definitions that are given to it; or the clauses that a contract writes out itself."""
+    key: tuple
+    given: tuple = ()
+    own: tuple = ()
 
-        def meant(text):
-            first = WORD.search(text)
-            first = first and first.group()
-            return parameters.index(first) if first in parameters else target(first, crate, file, KNOWN[key].imports)
+    def found(self, name):
+        """What a name of its clauses means: a definition, or none."""
+        return name if not isinstance(name, int) else self.given[name] if name < len(self.given) else None
 
-        run = []
-        for token in re.finditer(rf"{RULE.pattern}(\S+)|(\w+)\.rules\b|{WORD.pattern}", right):
-            if token.group(1):
-                run.append(Rule(token.group(1), meant(token.group(2)) if WORD.match(token.group(2)) else None))
-                continue
-            if token.group(3):
-                run.append(Rule("form", meant(token.group(3))))
-                continue
-            other = target(token.group(), crate, file, KNOWN[key].imports)
-            if other and other != key and lists_rules(other):
-                run.append(Rule("", other, tuple(map(meant, atoms(right[token.end():])))))
-        yield run
-
-
-def rules(key, given=()):
-    """The rules of a list with those that it takes in, and a condition for each; where the caller gives it, the list itself."""
-    for rule in (rule for run in clauses(key) for rule in run):
-        def found(name):
-            return name if not isinstance(name, int) else given[name] if name < len(given) else key
-
+    def taken_in(self, rule):
+        """The lists that a rule without a number takes in."""
+        name = self.found(rule.name)
         if rule.number == "form":
-            for own in filter(lists_rules, named(found(rule.name))):
-                yield from rules(own)
-        elif rule.number:
-            yield Rule(rule.number, found(rule.name))
+            return [Listed(key) for key in named(name) if lists_rules(key)] if name else []
+        return [Listed(name, tuple(map(self.found, rule.arguments)))] if name and lists_rules(name) else []
+
+
+def meaning(crate, file, imports, parameters=()):
+    """What a word or an argument means in a clause: a definition, the place of a parameter, or none. Of a function it is what the function begins with."""
+    def meant(text):
+        first = WORD.search(re.sub(r"λ [^.]*\.", "", text))
+        first = first and first.group()
+        return parameters.index(first) if first in parameters else target(first, crate, file, imports)
+
+    return meant
+
+
+def clause_rules(text, meant, own=()):
+    """The rules of a clause of a list, given its right side."""
+    taken_in = set()
+    for token in re.finditer(rf"{RULE.pattern}(\S+)|(\w+)\.rules\b|{WORD.pattern}", text):
+        if token.group(1):
+            yield Rule(token.group(1), meant(token.group(2)) if WORD.match(token.group(2)) else None)
+            continue
+        if token.group(3):
+            yield Rule("form", meant(token.group(3)))
+            continue
+        name = meant(token.group())
+        if name in taken_in or not (isinstance(name, int) or name and lists_rules(name)):
+            continue
+        arguments = tuple(map(meant, atoms(text[token.end():])))
+        if name == own:
+            taken_in |= set(arguments)
+            continue
+        yield Rule("", name, arguments)
+        if not isinstance(name, int):
+            # a list among the arguments that this one takes in stands there, and not here too
+            places = {rule.name for run in clauses(Listed(name)) for rule in run if not rule.number}
+            taken_in |= {argument for i, argument in enumerate(arguments) if i in places}
+
+
+def clauses(listed):
+    """What a rule list says: the rules of each clause."""
+    if listed.own:
+        return listed.own
+    crate, file, name = listed.key
+    found = []
+    for clause in re.split(rf"^{re.escape(name)} ", KNOWN[listed.key].body, flags=re.M):
+        if clause.strip():
+            left, _, right = clause.partition("=")
+            found.append(tuple(clause_rules(right, meaning(crate, file, KNOWN[listed.key].imports, atoms(left)), listed.key)))
+    return found
+
+
+def rules(listed):
+    """The rules of a list with those that it takes in, and a condition for each; where the caller gives it, the list itself."""
+    for rule in (rule for run in clauses(listed) for rule in run):
+        if rule.number.isdigit():
+            by_caller = isinstance(rule.name, int) and rule.name >= len(listed.given)
+            yield Rule(rule.number, listed.key if by_caller else listed.found(rule.name))
         else:
-            yield from rules(rule.name, tuple(map(found, rule.arguments)))
+            for other in listed.taken_in(rule):
+                yield from rules(other)
 
 
 def is_form(key):
@@ -189,33 +222,67 @@ def is_form(key):
     return KNOWN[key].signature.strip().endswith(": Form")
 
 
+def applied(text, meant, given=()):
+    """The definitions that a text names, each with what it is given; what a function that is given names is no part of it."""
+    found = Listed((), given).found
+    outside = re.sub(r"\(λ [^()]*(?:\([^()]*\)[^()]*)*\)", lambda m: " " * len(m.group()), text)
+    for token in WORD.finditer(outside):
+        name = meant(token.group())
+        if name and not isinstance(name, int):
+            yield Listed(name, tuple(found(meant(atom)) for atom in atoms(text[token.end():])))
+
+
+def names_in(listed):
+    """The definitions that a definition names, each with what it is given."""
+    crate, file, name = listed.key
+    whole, *clauses_in = re.split(rf"^{re.escape(name)} ", KNOWN[listed.key].body, flags=re.M)
+    for clause in clauses_in or ["=" + whole]:
+        left, _, right = clause.partition("=")
+        yield from applied(right, meaning(crate, file, KNOWN[listed.key].imports, atoms(left)), listed.given)
+
+
 def nearest_lists(contract, imports):
-    """The rule lists that a contract names, or else the definitions that it names, or theirs, and so on."""
-    level, seen = [t for t in (imports.get(w) for w in WORD.findall(contract)) if t in KNOWN], set()
+    """The rule lists that a contract writes out or names, or else the definitions that it names, or theirs, and so on."""
+    meant = meaning("", "", imports)
+    if own := [rule for rule in clause_rules(contract, meant) if rule.number.isdigit()]:
+        return [Listed((), (), (tuple(own),))]
+    level, seen = list(applied(contract, meant)), set()
     while level := [k for k in dict.fromkeys(level) if k not in seen]:
         seen |= set(level)
-        if lists := [k for k in level if lists_rules(k)]:
+        if lists := [k for k in level if lists_rules(k.key)]:
             return lists
-        level = [t for k in level if not is_form(k) for t in named(k)]
+        level = [t for k in level if not is_form(k.key) for t in names_in(k)]
     return []
 
 
 def public_functions():
-    """Every `pub fn` of the public modules of every crate: its path, its signature, and the rule lists nearest to its contract."""
-    def walk(crate, path, module):
+    """Every `pub fn` of the public modules of every crate, and of a type that a crate's root hands on: its path, its signature, and the rule lists nearest to its
+    contract."""
+    def read(path):
         text = re.sub(r"//[^\n]*", "", path.read_text())
-        imports = imported(" ".join(text.split()))
-        for m in re.finditer(r"\bpub fn (\w+)", text):
-            end = text.find("\n{", m.end())
+        return text, imported(" ".join(text.split()))
+
+    def functions(path, text, imports, indent=""):
+        for m in re.finditer(rf"^{indent}pub fn (\w+)", text, re.M):
+            end = text.find(f"\n{indent}{{", m.end())
             signature, said, contract = text[m.start():end].partition("ensures")
-            name = "::".join([crate] + module + [m.group(1)])
+            name = "::".join([*path, m.group(1)])
             if not said:
                 sys.exit(f"{name} has no contract")
-            arguments = " ".join(signature.split())[len("pub fn " + m.group(1)):].replace("( ", "(").replace(", )", ")")
+            arguments = re.sub(r"(\( ?|, )mut ", r"\1", " ".join(signature.split())[len("pub fn " + m.group(1)):])
+            arguments = arguments.replace("( ", "(").replace(", )", ")")
             yield name, arguments, nearest_lists(contract, imports)
-        for m in re.finditer(r"\bpub mod (\w+);", text):
-            inner = module + [m.group(1)]
-            yield from walk(crate, (ROOT / "crates" / crate / "src").joinpath(*inner).with_suffix(".rt"), inner)
+
+    def walk(crate, path, module):
+        text, imports = read(path)
+        yield from functions([crate, *module], text, imports)
+        here = (ROOT / "crates" / crate / "src").joinpath(*module)
+        for file, name in re.findall(r"^pub use (\w+)::(\w+);", text, re.M):
+            handed_on, imports = read(here / f"{file}.rt")
+            for impl in re.findall(rf"^impl {name} \{{$(.*?)^\}}$", handed_on, re.M | re.S):
+                yield from functions([crate, *module, name], impl, imports, " " * 4)
+        for inner in re.findall(r"\bpub mod (\w+);", text):
+            yield from walk(crate, here / f"{inner}.rt", [*module, inner])
 
     for crate in crates():
         yield from walk(crate, ROOT / "crates" / crate / "src" / "lib.rt", [])

@@ -55,10 +55,6 @@ module _ (more : ℕ → ℕ) (s : List ℕ) (at : ℕ) where
   groups_pass rules h = ap (λ (gs : List (List ℕ)). first (in_turn rules gs)) (groups_end h)
 
   -- ---- found: `left` groups stand before the one that is looked for
-  pub group_here : at < length s → (left : ℕ) → left ≡ 0 → drop at s ≡ get_or (groups more (drop at s)) left []
-  group_here h left z =
-      sym (ap₂ (λ (gs : List (List ℕ)) (k : ℕ). get_or gs k []) (groups_next h (at + (more (get_or s at 0) + 1)) refl) z)
-
   pub group_later : at < length s → (to : ℕ) → to ≡ at + (more (get_or s at 0) + 1) → (left : ℕ) → (left ≡ 0 → ⊥)
       → get_or (groups more (drop to s)) (left - 1) [] ≡ get_or (groups more (drop at s)) left []
   group_later h to e zero some = absurd (some refl)

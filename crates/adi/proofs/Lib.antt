@@ -1,4 +1,5 @@
 pub mod Groups
+pub mod Handed
 pub mod Room
 pub mod Order
 pub mod Unique

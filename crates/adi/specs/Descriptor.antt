@@ -1,15 +1,15 @@
 -- The descriptor that record 0 of a file holds.
 -- Assumes nothing.
-use Rattle.std.specs.Prelude.{ℕ, ◌+◌, ◌*◌, Bool, not, ◌||◌, cond, List, [], ◌∷◌, eqb, ltb, length}
-use Rattle.wire.specs.Answer.{answered}
+use Rattle.std.specs.Prelude.{ℕ, ◌+◌, ◌*◌, Bool, not, ◌||◌, cond, List, [], ◌∷◌, eqb, ltb, length, Result, Ok, Err}
+use Rattle.wire.specs.Answer.{judged}
 use Rattle.wire.specs.Numbers.{of_be, field}
 use Rattle.wire.specs.Refusal.{Rule, ◌when◌, first}
 use Rattle.wire.specs.Told.{Told, accepted, refused}
 use Rattle.adi.specs.declared.Contents.{Contents}
 use Rattle.adi.specs.declared.Contents.TheVariants as C
 use Rattle.adi.specs.declared.Descriptor.{Descriptor}
-use Rattle.adi.specs.declared.DescriptorRead.{DescriptorRead}
-use Rattle.adi.specs.declared.DescriptorRead.TheVariants.{Descriptor as Found, Refused}
+use Rattle.wire.specs.Numbered.{number_of}
+use Rattle.wire.specs.declared.refusals.Refusal.{Refusal}
 
 -- a 16-bit field, most significant byte first
 abbrev pub word_at : List ℕ → ℕ → ℕ
@@ -35,9 +35,17 @@ kind_of s = word_at s 2
 abbrev pub contents_of : List ℕ → ℕ
 contents_of s = word_at s 8
 
+-- what is judged before the contents type
+abbrev pub no_descriptor : List ℕ → Bool
+no_descriptor s = ltb (length s) 16 || not (eqb (kind_of s) 1)
+
+-- and of the contents type by itself
+abbrev pub contents_rules : ℕ → List Rule
+contents_rules n = 84 when ltb 3 n ∷ []
+
 -- 84 descriptor under 16 bytes, its type not 1 or contents type above 3
 abbrev pub bad_descriptor : List ℕ → Bool
-bad_descriptor s = ltb (length s) 16 || not (eqb (kind_of s) 1) || ltb 3 (contents_of s)
+bad_descriptor s = no_descriptor s || ltb 3 (contents_of s)
 
 abbrev pub descriptor_rules : List ℕ → List Rule
 descriptor_rules s = 84 when bad_descriptor s ∷ []
@@ -55,10 +63,10 @@ descriptor_of s =
       total = count_at s 12;
     }
 
-unfoldable pub read_descriptor : List ℕ → DescriptorRead
-read_descriptor s = answered Refused (Found (descriptor_of s)) (first (descriptor_rules s))
+unfoldable pub read_descriptor : List ℕ → Result Descriptor Refusal
+read_descriptor s = judged (descriptor_of s) (first (descriptor_rules s))
 
-abbrev pub told_descriptor : DescriptorRead → Told
-told_descriptor (Found d) =
+abbrev pub told_descriptor : Result Descriptor Refusal → Told
+told_descriptor (Ok d) =
     accepted (d.length ∷ d.kind ∷ d.records ∷ d.record_length ∷ contents_number d.contents ∷ d.next ∷ d.total ∷ [])
-told_descriptor (Refused n) = refused n
+told_descriptor (Err e) = refused (number_of e)

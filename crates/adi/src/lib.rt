@@ -5,21 +5,25 @@
 pub mod head;
 
 ghost use Rattle.std.specs.Prelude.{◌≡◌};
-ghost use Rattle.adi.specs.Descriptor.{contents_number, contents_from, bad_descriptor, descriptor_of, read_descriptor};
+ghost use Rattle.wire.specs.Answer.{judged};
+ghost use Rattle.wire.specs.Refusal.{first};
+ghost use Rattle.adi.specs.Descriptor.{contents_number, contents_from, contents_rules, no_descriptor, read_descriptor};
+
+use wire::{Refusal, be16_at};
 
 // Modbus's Read File Record.
 pub const FUNCTION: u8 = 0x14;
 
 // What a file holds.
-#[derive(Clone, Copy)]
+#[derive(Clone, Copy, Debug, PartialEq, Eq)]
 pub enum Contents {
-    Events,
-    Hourly,
-    Daily,
-    Monthly,
+    Events = 0,
+    Hourly = 1,
+    Daily = 2,
+    Monthly = 3,
 }
 
-#[derive(Clone, Copy)]
+#[derive(Clone, Copy, Debug, PartialEq, Eq)]
 pub struct Descriptor {
     // Of the descriptor itself.
     pub length: u16,
@@ -36,62 +40,59 @@ pub struct Descriptor {
     pub total: u32,
 }
 
-#[derive(Clone, Copy)]
-pub enum DescriptorRead {
-    Descriptor(Descriptor),
-    // The paper's number.
-    Refused(u8),
-}
+// A number above 3 is that of no contents.
+impl TryFrom<u16> for Contents {
+    type Error = Refusal;
 
-// A number above 3 is the last.
-fn contents_from(number: u16) -> Contents
-    ensures { result ≡ contents_from number }
-{
-    match number {
-        0 => Contents::Events,
-        1 => Contents::Hourly,
-        2 => Contents::Daily,
-        _ => Contents::Monthly,
+    ghost try_from_gives = { λ number result. result ≡ judged (contents_from number) (first (contents_rules number)) };
+
+    fn try_from(number: u16) -> Result<Contents, Refusal> {
+        match number {
+            0 => Ok(Contents::Events),
+            1 => Ok(Contents::Hourly),
+            2 => Ok(Contents::Daily),
+            3 => Ok(Contents::Monthly),
+            _ => Err(Refusal::BadDescriptor),
+        }
     }
 }
 
+impl From<Contents> for u8 {
+    ghost from_gives = { λ contents number. number ≡ contents_number contents };
+
+    fn from(contents: Contents) -> u8 {
+        contents as u8
+    }
+}
+
+// A number's conversion under a name of its own: `contents_number_unique` speaks of it.
 pub fn contents_number(contents: Contents) -> u8
     ensures { result ≡ contents_number contents }
 {
-    match contents {
-        Contents::Events => 0,
-        Contents::Hourly => 1,
-        Contents::Daily => 2,
-        Contents::Monthly => 3,
-    }
+    u8::from(contents)
 }
 
-fn bad_descriptor(registers: &[u8]) -> bool
-    ensures { result ≡ bad_descriptor registers.now }
+// Too short for a descriptor, or of another type.
+fn no_descriptor(registers: &[u8]) -> bool
+    ensures { result ≡ no_descriptor registers.now }
 {
-    (registers.len() < 16) | (wire::be16_at(registers, 2) != 1) | (3 < wire::be16_at(registers, 8))
-}
-
-fn descriptor_of(registers: &[u8]) -> Descriptor
-    ensures { result ≡ descriptor_of registers.now }
-{
-    Descriptor {
-        length: wire::be16_at(registers, 0),
-        kind: wire::be16_at(registers, 2),
-        records: wire::be16_at(registers, 4),
-        record_length: wire::be16_at(registers, 6),
-        contents: contents_from(wire::be16_at(registers, 8)),
-        next: wire::be16_at(registers, 10),
-        total: wire::be16_at(registers, 12) as u32 + wire::be16_at(registers, 14) as u32 * 65536,
-    }
+    (registers.len() < 16) | (be16_at(registers, 2) != 1)
 }
 
 // The descriptor, out of the register bytes of record 0.
-pub fn read_descriptor(registers: &[u8]) -> DescriptorRead
+pub fn read_descriptor(registers: &[u8]) -> Result<Descriptor, Refusal>
     ensures { result ≡ read_descriptor registers.now }
 {
-    if bad_descriptor(registers) {
-        return DescriptorRead::Refused(84);
+    if no_descriptor(registers) {
+        return Err(Refusal::BadDescriptor);
     }
-    DescriptorRead::Descriptor(descriptor_of(registers))
+    Ok(Descriptor {
+        length: be16_at(registers, 0),
+        kind: be16_at(registers, 2),
+        records: be16_at(registers, 4),
+        record_length: be16_at(registers, 6),
+        contents: Contents::try_from(be16_at(registers, 8))?,
+        next: be16_at(registers, 10),
+        total: be16_at(registers, 12) as u32 + be16_at(registers, 14) as u32 * 65536,
+    })
 }

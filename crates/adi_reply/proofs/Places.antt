@@ -8,13 +8,14 @@ use native.Mathlib.Omega.{arith}
 use lib.Dec.{ltb}
 use lib.ListN.{length, get_or, length-map, get_or-eq_default}
 use borrow.Author.Tests.{ltb-false, eqb-true, not-false}
+use Rattle.std.specs.Prelude.{Ok}
 use Rattle.wire.specs.InTurn.{Faultless}
 use Rattle.wire.proofs.Bools.{or_neither}
 use Rattle.adi.specs.Groups.{at_place}
 use Rattle.adi_reply.specs.Layout.{registers_of, groups_of}
 use Rattle.adi_reply.specs.Reading.{not_even_from2, group_rules, read_reply, registers_at}
 use Rattle.adi_reply.specs.Promise.{Says}
-use Rattle.adi_reply.specs.declared.ReplyRead.TheVariants.{Groups}
+use Rattle.adi_reply.specs.declared.Reply.TheVariants.{Groups}
 use Rattle.adi_reply.proofs.Bytes.{again_good}
 use Rattle.adi_reply.proofs.RoundTrip.{read_faultless, read_as_many}
 
@@ -23,7 +24,7 @@ registers_in [] k f h = absurd (omega arith)
 registers_in (g ∷ gs) zero f h = (again_good g (f.0, tt)).0.0
 registers_in (g ∷ gs) (suc k) f h = registers_in gs k f.1 (omega arith)
 
-module _ (s : List ℕ) (n : ℕ) (e : read_reply s ≡ Groups n) where
+module _ (s : List ℕ) (n : ℕ) (e : read_reply s ≡ Ok (Groups n)) where
   pub registers_there : (place : ℕ) → 1 ≤ place → place ≤ n → (2 ≤ length (registers_at s place)) × (length (registers_at s place) % 2 ≡ 0)
   unfolding registers_at
   registers_there zero some few = absurd (omega arith)
@@ -46,11 +47,11 @@ each_of [] (suc k) = refl
 each_of (g ∷ gs) (suc zero) = refl
 each_of (g ∷ gs) (suc (suc k)) = each_of gs (suc k)
 
-pub accepted_says : (s : List ℕ) (n : ℕ) → read_reply s ≡ Groups n → (rs : List (List ℕ)) × Says s rs
+pub accepted_says : (s : List ℕ) (n : ℕ) → read_reply s ≡ Ok (Groups n) → (rs : List (List ℕ)) × Says s rs
 unfolding registers_at
 accepted_says s n e = (
   map registers_of (groups_of s),
-  record { count = e ∙ ap Groups (sym (read_as_many s n e) ∙ sym (length-map (groups_of s) registers_of)); each = each_of (groups_of s) },
+  record { count = e ∙ ap (λ (k : ℕ). Ok (Groups k)) (sym (read_as_many s n e) ∙ sym (length-map (groups_of s) registers_of)); each = each_of (groups_of s) },
 )
 
 pub registers_at_0 : (s : List ℕ) → registers_at s 0 ≡ []

@@ -7,26 +7,26 @@ use Prim.Native.Nat.{ℕ, ◌≤◌}
 use native.Mathlib.Omega.{arith}
 use lib.ListN.{length, take}
 use borrow.Author.Tests.{eqb-true, not-false, eq-eqb, ne_eqb, le-ltb}
-use Rattle.wire.specs.Answer.{answered}
+use Rattle.std.specs.Prelude.{Ok}
+use Rattle.wire.specs.Writes.{Written}
+use Rattle.wire.specs.Answer.{judged}
 use Rattle.wire.specs.InTurn.{in_turn, Faultless}
 use Rattle.wire.specs.Numbers.{over}
 use Rattle.wire.specs.Refusal.{◌when◌, pick, first, NoneHolds}
-use Rattle.wire.specs.declared.Written.{Written}
-use Rattle.wire.specs.declared.Written.TheVariants.{Length}
-use Rattle.wire.proofs.Answer.{answered_none, accepted_as}
+use Rattle.wire.proofs.Answer.{judged_none, accepted_as}
 use Rattle.wire.proofs.Bools.{neither_or, or_neither}
 use Rattle.wire.proofs.InTurn.{in_turn_law, in_turn_numbered}
-use Rattle.wire.proofs.Refusal.{none_first, first_none, none_append, none_both, numbered_append}
+use Rattle.wire.proofs.Rules.{none_first, first_none, none_append, none_both, numbered_append}
 use Rattle.wire.proofs.Writes.{wrote_front, wrote_all}
 use Rattle.adi.specs.Groups.{groups}
 use Rattle.adi.specs.Head.{count_of, body_of, not_function, other_count}
 use Rattle.adi.specs.Room.{no_room}
 use Rattle.adi_reply.specs.Layout.{length_of, registers_of, typed, groups_of, body_bytes, reply_bytes, no_data_bytes}
-use Rattle.adi_reply.specs.Reading.{not4to245, group_rules, body_rules, four_bytes, reply_rules, found_in, read_reply, registers_at, told_reply}
+use Rattle.adi_reply.specs.Reading.{not4to245, group_rules, body_rules, four_bytes, reply_rules, found_in, read_reply, registers_at}
 use Rattle.adi_reply.specs.Writing.{cut, total, count_for, length_rules, judge_rules, write_rules, WritesReply, no_data_rules, WritesNoData}
 use Rattle.adi_reply.specs.Promise.{Says, joined}
-use Rattle.adi_reply.specs.declared.ReplyRead.{ReplyRead}
-use Rattle.adi_reply.specs.declared.ReplyRead.TheVariants.{Groups, NoData, Refused}
+use Rattle.adi_reply.specs.declared.Reply.{Reply}
+use Rattle.adi_reply.specs.declared.Reply.TheVariants.{Groups, NoData}
 use Rattle.adi_reply.proofs.Bytes.{body_count, body_faultless, body_each, body_again, again_faultless, each_is, cut_lengths, cut_joined, joined_total}
 use Rattle.adi_reply.proofs.Judging.{Good, good, reply_numbered, judge_numbered}
 use Rattle.adi_reply.proofs.Stores.{length_body}
@@ -62,13 +62,13 @@ module _ (ns registers : List ℕ) (none : NoneHolds (judge_rules ns registers))
   bytes_say =
       record {
         count =
-            ap (λ (b : Bool). answered Refused (found_in b (reply_bytes rs)) (pick (not_function (reply_bytes rs)) 10 (first (body_rules b (reply_bytes rs))))) longer
-            ∙ answered_none Refused _ _ (first_none (10 when not_function (reply_bytes rs) ∷ body_rules false (reply_bytes rs)) (refl, written_good))
-            ∙ ap Groups (body_count rs);
+            ap (λ (b : Bool). judged (found_in b (reply_bytes rs)) (pick (not_function (reply_bytes rs)) 10 (first (body_rules b (reply_bytes rs))))) longer
+            ∙ judged_none _ _ (first_none (10 when not_function (reply_bytes rs) ∷ body_rules false (reply_bytes rs)) (refl, written_good))
+            ∙ ap (λ (k : ℕ). Ok (Groups k)) (body_count rs);
         each = body_each rs;
       }
 
-pub reply_reads_back : (ns registers out : List ℕ) (r : Written) (out' : List ℕ) (k : ℕ) → WritesReply ns registers out r out' → r ≡ Length k
+pub reply_reads_back : (ns registers out : List ℕ) (r : Written) (out' : List ℕ) (k : ℕ) → WritesReply ns registers out r out' → r ≡ Ok k
     → Says (take k out') (cut ns registers)
 reply_reads_back ns registers out r out' k w e =
     let front = wrote_front _ _ out r out' k w e in
@@ -76,14 +76,11 @@ reply_reads_back ns registers out r out' k w e =
     subst (λ (s : List ℕ). Says s (cut ns registers)) (sym front.1) (bytes_say ns registers (none_append (judge_rules ns registers) _ none).0)
 
 -- ---- what was read is written again
-accepted : (s : List ℕ) (a : ReplyRead) → read_reply s ≡ a → (told_reply a).number ≡ 0 → NoneHolds (reply_rules s) × (found_in (four_bytes s) s ≡ a)
+accepted : (s : List ℕ) (a : Reply) → read_reply s ≡ Ok a → NoneHolds (reply_rules s) × (found_in (four_bytes s) s ≡ a)
 unfolding read_reply
-accepted s a e z =
-    let p = accepted_as Refused (found_in (four_bytes s) s) (λ x. (told_reply x).number) told _ a e z in
+accepted s a e =
+    let p = accepted_as (found_in (four_bytes s) s) _ a e in
     (none_first (reply_rules s) (reply_numbered s) p.0, p.1)
-  where
-    told : (n : ℕ) → (told_reply (Refused n)).number ≡ n
-    told n = refl
 
 -- groups come of no four bytes, and no data of no others
 has_groups : (s : List ℕ) (n : ℕ) → found_in (four_bytes s) s ≡ Groups n → four_bytes s ≡ false
@@ -103,13 +100,13 @@ has_no_data s count n e = go (four_bytes s) refl
         absurd (let same : Groups (length (groups_of s)) ≡ NoData count n = sym (ap (λ (b : Bool). found_in b s) eb) ∙ e in let z : ◌≡◌ {A = ℕ} 0 1 = cc in omega arith)
 
 -- a reply that is read as n groups
-module _ (s : List ℕ) (n : ℕ) (e : read_reply s ≡ Groups n) where
+module _ (s : List ℕ) (n : ℕ) (e : read_reply s ≡ Ok (Groups n)) where
   other : four_bytes s ≡ false
-  other = has_groups s n (accepted s (Groups n) e refl).1
+  other = has_groups s n (accepted s (Groups n) e).1
 
   none_of : (not_function s ≡ false) × NoneHolds (body_rules false s)
   none_of =
-      let p = (accepted s (Groups n) e refl).0 in
+      let p = (accepted s (Groups n) e).0 in
       (p.0, subst (λ (b : Bool). NoneHolds (body_rules b s)) other p.1)
 
   pub read_faultless : Faultless group_rules (groups_of s)
@@ -117,7 +114,7 @@ module _ (s : List ℕ) (n : ℕ) (e : read_reply s ≡ Groups n) where
 
   pub read_as_many : length (groups_of s) ≡ n
   read_as_many =
-      let same : Groups (length (groups_of s)) ≡ Groups n = sym (ap (λ (b : Bool). found_in b s) other) ∙ (accepted s (Groups n) e refl).1 in
+      let same : Groups (length (groups_of s)) ≡ Groups n = sym (ap (λ (b : Bool). found_in b s) other) ∙ (accepted s (Groups n) e).1 in
       cc
 
 module _ (s : List ℕ) (rs : List (List ℕ)) (says : Says s rs) where
@@ -158,7 +155,7 @@ bytes_again (f ∷ n ∷ d) rs says =
     ap₂ (λ (x y : ℕ). x ∷ y ∷ body_bytes rs) (sym function) (sym (count_is s rs says)) ∙ ap (λ (l : List ℕ). f ∷ n ∷ l) (body_is s rs says)
 
 pub reply_writes_again : (s : List ℕ) (rs : List (List ℕ)) (out : List ℕ) (r : Written) (out' : List ℕ) → Says s rs → length s ≤ length out
-    → WritesReply (map length rs) (joined rs) out r out' → (r ≡ Length (length s)) × (out' ≡ over out s)
+    → WritesReply (map length rs) (joined rs) out r out' → (r ≡ Ok (length s)) × (out' ≡ over out s)
 reply_writes_again s rs out r out' says room w =
     let ns = map length rs in
     let again : reply_bytes (cut ns (joined rs)) ≡ s = ap reply_bytes (cut_joined rs) ∙ bytes_again s rs says in
@@ -166,10 +163,10 @@ reply_writes_again s rs out r out' says room w =
     let none : NoneHolds (write_rules ns (joined rs) out) =
     none_both (judge_rules ns (joined rs)) (16 when no_room (reply_bytes (cut ns (joined rs))) out ∷ []) (judged_again s rs says) (le-ltb _ _ fits, tt) in
     let all = wrote_all _ _ out r out' w (first_none (write_rules ns (joined rs) out) none) in
-    (all.0 ∙ ap (λ (l : List ℕ). Length (length l)) again, all.1 ∙ ap (over out) again)
+    (all.0 ∙ ap (λ (l : List ℕ). Ok (length l)) again, all.1 ∙ ap (over out) again)
 
 -- ---- no data
-no_data_said : (count n : ℕ) → read_reply (no_data_bytes count n) ≡ NoData count n
+no_data_said : (count n : ℕ) → read_reply (no_data_bytes count n) ≡ Ok (NoData count n)
 unfolding read_reply pick
 no_data_said count n = refl
 
@@ -182,9 +179,9 @@ four (f ∷ a ∷ b ∷ t ∷ []) e none =
     ap₂ (λ (x y : ℕ). x ∷ a ∷ b ∷ y ∷ []) (sym (eqb-true f 0x14 (not-false _ none.0))) (sym (eqb-true t 6 (not-false _ none.1.0)))
 four (f ∷ a ∷ b ∷ t ∷ c ∷ s) e none = absurd (omega arith)
 
-no_data_again : (s : List ℕ) (count n : ℕ) → read_reply s ≡ NoData count n → no_data_bytes count n ≡ s
+no_data_again : (s : List ℕ) (count n : ℕ) → read_reply s ≡ Ok (NoData count n) → no_data_bytes count n ≡ s
 no_data_again s count n e =
-    let p = accepted s (NoData count n) e refl in
+    let p = accepted s (NoData count n) e in
     let is-four = has_no_data s count n p.1 in
     let none : NoneHolds (10 when not_function s ∷ body_rules true s) = (p.0.0, subst (λ (b : Bool). NoneHolds (body_rules b s)) is-four p.0.1) in
     let same : NoData (count_of s) (length_of (body_of s)) ≡ NoData count n = sym (ap (λ (b : Bool). found_in b s) is-four) ∙ p.1 in
@@ -192,14 +189,14 @@ no_data_again s count n e =
     let length-same : length_of (body_of s) ≡ n = cc in
     ap₂ no_data_bytes (sym count_same) (sym length-same) ∙ four s (eqb-true (length s) 4 is-four) none
 
-pub no_data_reads_back : (count n : ℕ) (out : List ℕ) (r : Written) (out' : List ℕ) (k : ℕ) → WritesNoData count n out r out' → r ≡ Length k
-    → read_reply (take k out') ≡ NoData count n
+pub no_data_reads_back : (count n : ℕ) (out : List ℕ) (r : Written) (out' : List ℕ) (k : ℕ) → WritesNoData count n out r out' → r ≡ Ok k
+    → read_reply (take k out') ≡ Ok (NoData count n)
 no_data_reads_back count n out r out' k w e = ap read_reply (wrote_front _ _ out r out' k w e).1 ∙ no_data_said count n
 
-pub no_data_writes_again : (s : List ℕ) (count n : ℕ) (out : List ℕ) (r : Written) (out' : List ℕ) → read_reply s ≡ NoData count n → length s ≤ length out
-    → WritesNoData count n out r out' → (r ≡ Length (length s)) × (out' ≡ over out s)
+pub no_data_writes_again : (s : List ℕ) (count n : ℕ) (out : List ℕ) (r : Written) (out' : List ℕ) → read_reply s ≡ Ok (NoData count n) → length s ≤ length out
+    → WritesNoData count n out r out' → (r ≡ Ok (length s)) × (out' ≡ over out s)
 no_data_writes_again s count n out r out' e room w =
     let again = no_data_again s count n e in
     let fits : length (no_data_bytes count n) ≤ length out = omega (arith, ap length again) in
     let all = wrote_all _ _ out r out' w (first_none (no_data_rules count n out) (le-ltb _ _ fits, tt)) in
-    (all.0 ∙ ap (λ (l : List ℕ). Length (length l)) again, all.1 ∙ ap (over out) again)
+    (all.0 ∙ ap (λ (l : List ℕ). Ok (length l)) again, all.1 ∙ ap (over out) again)

@@ -1,25 +1,22 @@
 -- The stores of a reply, one after another, are its bytes.
 -- Assumes nothing.
 use mathlib.Core.Path.{◌≡◌, refl, sym, ap, ap₂, ◌∙◌}
-use mathlib.Core.List.{List, [], ◌∷◌, ◌++◌}
-use Prim.Native.Nat.{ℕ, suc, ◌+◌, ◌*◌, ◌≤◌, ◌<◌}
-use native.Mathlib.Numerals.{add-one}
+use mathlib.Core.List.{List, [], ◌∷◌}
+use Prim.Native.Nat.{ℕ, ◌+◌, ◌*◌, ◌≤◌, ◌<◌}
 use native.Mathlib.Omega.{arith}
 use lib.ListN.{length, get_or, set, take, drop, length-append, length-drop, drop_of_length-le}
-use lib.Seq.{sets, drop-cons, drop-drop, length-take-le}
+use lib.Seq.{sets, length-take-le}
 use Rattle.wire.proofs.Writing.{sets_append}
 use Rattle.adi_reply.specs.Layout.{group_bytes, body_bytes, reply_bytes}
 use Rattle.adi_reply.specs.Writing.{cut, total, count_for}
-use Rattle.adi_reply.proofs.Judging.{total_next}
+use Rattle.adi_reply.proofs.Judging.{next, total_next}
 
 -- length and type, then the register bytes
 pub group_stored : (out registers : List ℕ) (at n : ℕ) → n ≤ length registers
-    → sets (set (set out at n) (at + 1) 6) (at + 2) (take n registers) ≡ sets out at (group_bytes (take n registers))
+    → sets (sets out at (n ∷ 6 ∷ [])) (at + 2) (take n registers) ≡ sets out at (group_bytes (take n registers))
 unfolding group_bytes
 group_stored out registers at n h =
-    let two : at + 2 ≡ suc (suc at) = omega arith in
-    ap₂ (λ (i j : ℕ). sets (set (set out at n) i 6) j (take n registers)) (add-one at) two
-    ∙ ap (λ (k : ℕ). sets (set (set out at k) (suc at) 6) (suc (suc at)) (take n registers)) (sym (length-take-le n registers h))
+    sets_append out at (n ∷ 6 ∷ []) (take n registers) ∙ ap (λ (k : ℕ). sets out at (k ∷ 6 ∷ take n registers)) (sym (length-take-le n registers h))
 
 -- how long they are
 pub length_body : (ns registers : List ℕ) → total ns ≡ length registers → length (body_bytes (cut ns registers)) ≡ count_for ns
@@ -46,25 +43,28 @@ module _ (ns registers : List ℕ) (all : total ns ≡ length registers) where
   head_stored out = ap (λ (k : ℕ). sets (set (set out 0 0x14) 1 k) 2 (body_bytes (cut ns registers))) count
 
 -- a turn of the loop: what is left to store, from here on
-module _ (ns registers : List ℕ) (i from n : ℕ) (h : i < length ns) (left : from + total (drop i ns) ≡ length registers) (en : n ≡ get_or ns i 0) where
-  pub group_within : n ≤ length (drop from registers)
-  group_within = omega (arith, left, en, total_next ns i h, length-drop from registers)
+module _ (ns left : List ℕ) (i : ℕ) (h : i < length ns) (all : total (drop i ns) ≡ length left) where
+  abbrev n : ℕ
+  n = get_or ns i 0
 
-  pub store_turn : (out out' : List ℕ) → out' ≡ sets out (i * 2 + from + 2) (group_bytes (take n (drop from registers)))
-      → sets out' ((i + 1) * 2 + (from + n) + 2) (body_bytes (cut (drop (i + 1) ns) (drop (from + n) registers)))
-      ≡ sets out (i * 2 + from + 2) (body_bytes (cut (drop i ns) (drop from registers)))
+  pub group_within : n ≤ length left
+  group_within = omega (arith, all, total_next ns i h)
+
+  pub left_next : total (drop (i + 1) ns) ≡ length (drop n left)
+  left_next = omega (arith, all, total_next ns i h, length-drop n left)
+
+  pub store_turn : (out : List ℕ) (at : ℕ)
+      → sets (sets (sets out at (n ∷ 6 ∷ [])) (at + 2) (take n left)) (at + (n + 2)) (body_bytes (cut (drop (i + 1) ns) (drop n left)))
+      ≡ sets out at (body_bytes (cut (drop i ns) left))
   unfolding body_bytes group_bytes cut
-  store_turn out out' e =
-      let here : drop i ns ≡ n ∷ drop (i + 1) ns = drop-cons ns i 0 h ∙ ap₂ (λ (m k : ℕ). m ∷ drop k ns) (sym en) (sym (add-one i)) in
-      let part = group_bytes (take n (drop from registers)) in
-      let rest = body_bytes (cut (drop (i + 1) ns) (drop (from + n) registers)) in
-      let l : length (take n (drop from registers)) ≡ n = length-take-le n (drop from registers) group_within in
-      let to : (i + 1) * 2 + (from + n) + 2 ≡ i * 2 + from + 2 + length part = omega (arith, l) in
-      ap₂ (λ (o : List ℕ) (k : ℕ). sets o k rest) e to
-      ∙ sets_append out (i * 2 + from + 2) part rest
-      ∙ ap (sets out (i * 2 + from + 2))
-      (sym (ap (λ (l : List ℕ). body_bytes (cut l (drop from registers))) here
-      ∙ ap (λ (l : List ℕ). part ++ body_bytes (cut (drop (i + 1) ns) l)) (drop-drop n from registers)))
+  store_turn out at =
+      let part = group_bytes (take n left) in
+      let rest = body_bytes (cut (drop (i + 1) ns) (drop n left)) in
+      let l : length (take n left) ≡ n = length-take-le n left group_within in
+      let to : at + (n + 2) ≡ at + length part = omega (arith, l) in
+      ap₂ (λ (o : List ℕ) (k : ℕ). sets o k rest) (group_stored out left at n group_within) to
+      ∙ sets_append out at part rest
+      ∙ sym (ap (λ (l : List ℕ). sets out at (body_bytes (cut l left))) (next ns i h))
 
 pub store_end : (ns registers out : List ℕ) (i at : ℕ) → length ns ≤ i → out ≡ sets out at (body_bytes (cut (drop i ns) registers))
 unfolding body_bytes cut

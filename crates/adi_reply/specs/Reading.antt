@@ -1,15 +1,17 @@
 -- What is judged of a reply, and what is answered.
 -- Assumes nothing.
-use Rattle.std.specs.Prelude.{ℕ, ◌+◌, ◌%◌, Bool, true, false, not, ◌||◌, List, [], ◌∷◌, eqb, ltb, length}
-use Rattle.wire.specs.Answer.{answered}
+use Rattle.std.specs.Prelude.{ℕ, ◌+◌, ◌%◌, Bool, true, false, not, ◌||◌, List, [], ◌∷◌, eqb, ltb, length, Result, Ok, Err}
+use Rattle.wire.specs.Answer.{judged}
 use Rattle.wire.specs.InTurn.{in_turn}
 use Rattle.wire.specs.Refusal.{Rule, ◌when◌, first}
 use Rattle.wire.specs.Told.{Told, accepted, refused}
 use Rattle.adi.specs.Groups.{at_place}
 use Rattle.adi.specs.Head.{count_of, body_of, not_function, other_count}
 use Rattle.adi_reply.specs.Layout.{length_of, type_of, registers_of, groups_of}
-use Rattle.adi_reply.specs.declared.ReplyRead.{ReplyRead}
-use Rattle.adi_reply.specs.declared.ReplyRead.TheVariants.{Groups, NoData, Refused}
+use Rattle.adi_reply.specs.declared.Reply.{Reply}
+use Rattle.adi_reply.specs.declared.Reply.TheVariants.{Groups, NoData}
+use Rattle.wire.specs.Numbered.{number_of}
+use Rattle.wire.specs.declared.refusals.Refusal.{Refusal}
 
 -- of a byte count
 abbrev pub not4to245 : ℕ → Bool
@@ -51,18 +53,18 @@ abbrev pub reply_rules : List ℕ → List Rule
 reply_rules s = 10 when not_function s ∷ body_rules (four_bytes s) s
 
 -- "and has an answer of its own that keeps both length bytes, any numbers"; otherwise how many groups
-abbrev pub found_in : Bool → List ℕ → ReplyRead
+abbrev pub found_in : Bool → List ℕ → Reply
 found_in true s = NoData (count_of s) (length_of (body_of s))
 found_in false s = Groups (length (groups_of s))
 
-unfoldable pub read_reply : List ℕ → ReplyRead
-read_reply s = answered Refused (found_in (four_bytes s) s) (first (reply_rules s))
+unfoldable pub read_reply : List ℕ → Result Reply Refusal
+read_reply s = judged (found_in (four_bytes s) s) (first (reply_rules s))
 
 -- the register bytes of the group at a place; of one that is not there, none
 unfoldable pub registers_at : List ℕ → ℕ → List ℕ
 registers_at s place = registers_of (at_place [] (groups_of s) place)
 
-abbrev pub told_reply : ReplyRead → Told
-told_reply (Groups n) = accepted (n ∷ [])
-told_reply (NoData count n) = accepted (count ∷ n ∷ [])
-told_reply (Refused n) = refused n
+abbrev pub told_reply : Result Reply Refusal → Told
+told_reply (Ok (Groups n)) = accepted (n ∷ [])
+told_reply (Ok (NoData count n)) = accepted (count ∷ n ∷ [])
+told_reply (Err e) = refused (number_of e)

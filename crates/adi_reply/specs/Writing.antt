@@ -3,8 +3,7 @@
 use Rattle.std.specs.Prelude.{ℕ, ◌+◌, ◌*◌, Bool, not, ◌||◌, List, [], ◌∷◌, ◌++◌, eqb, length, take, drop}
 use Rattle.wire.specs.InTurn.{in_turn}
 use Rattle.wire.specs.Refusal.{Rule, ◌when◌, first}
-use Rattle.wire.specs.Writes.{Writes}
-use Rattle.wire.specs.declared.Written.{Written}
+use Rattle.wire.specs.Writes.{Written, Writes}
 use Rattle.adi.specs.Room.{no_room}
 use Rattle.adi_reply.specs.Layout.{reply_bytes, no_data_bytes}
 use Rattle.adi_reply.specs.Reading.{not4to245, not_even_from2}

@@ -8,6 +8,7 @@ use native.Mathlib.Omega.{arith}
 use lib.Dec.{ltb}
 use lib.ListN.{length}
 use borrow.Author.Tests.{eqb-true, not-false, le-ltb}
+use Rattle.std.specs.Prelude.{None, Some}
 use Rattle.wire.specs.Each.{Bytes}
 use Rattle.wire.specs.InTurn.{Faultless}
 use Rattle.wire.specs.Numbers.{digits, number, be, of_be, field}
@@ -17,7 +18,6 @@ use Rattle.adi_request.specs.Reading.{bad_record, no_length, group_rules, wholly
 use Rattle.adi_request.specs.Writing.{asked_rules}
 use Rattle.adi_request.specs.Promise.{Words}
 use Rattle.adi_request.specs.declared.Asked.{Asked}
-use Rattle.adi_request.specs.declared.AskedAt.TheVariants.{Asked as Found, Nothing}
 
 -- two bytes and their number
 back : (v : ℕ) → v < 65536 → v % 256 + 256 * (v / 256 % 256 + 256 * 0) ≡ v
@@ -57,9 +57,9 @@ module _ (a : Asked) (rest : List ℕ) where
         ap₂ (λ (x y : ℕ). record { file = x; «record» = y; length = length_of (group_bytes a ++ rest) }) file_back record_back
         ∙ ap (λ (x : ℕ). record { file = a.file; «record» = a.«record»; length = x }) length_back
 
-    wholly_back : wholly (group_bytes a ++ rest) ≡ Found a
+    wholly_back : wholly (group_bytes a ++ rest) ≡ Some a
     wholly_back =
-        ap (λ (b : Bool). cond b Nothing (Found (asked_of (group_bytes a ++ rest)))) (le-ltb _ _ whole) ∙ ap Found asked_back
+        ap (λ (b : Bool). cond b None (Some (asked_of (group_bytes a ++ rest)))) (le-ltb _ _ whole) ∙ ap Some asked_back
 
     -- the reader finds no fault where the writer found none
     good_back : Faultless asked_rules (a ∷ []) → Faultless group_rules ((group_bytes a ++ rest) ∷ [])
@@ -88,7 +88,7 @@ body_faultless (a ∷ asks) words f =
     subst (Faultless group_rules) (sym (groups_written a (body_bytes asks)))
     ((good_back a (body_bytes asks) words.0 (f.0, tt)).0, body_faultless asks words.1 f.1)
 
-pub body_each : (asks : List Asked) → Words asks → (place : ℕ) → wholly (at_place [] (groups six (body_bytes asks)) place) ≡ at_place Nothing (map Found asks) place
+pub body_each : (asks : List Asked) → Words asks → (place : ℕ) → wholly (at_place [] (groups six (body_bytes asks)) place) ≡ at_place None (map Some asks) place
 unfolding body_bytes starts
 body_each asks words zero = refl
 body_each [] words (suc k) = refl
@@ -125,22 +125,22 @@ again_faultless [] f = tt
 again_faultless (g ∷ gs) f = ((f.0.1.0, (f.0.1.1.0, tt)), again_faultless gs f.1)
 
 -- groups are those that stand at their places
-found_is : (g : List ℕ) (a : Asked) → wholly g ≡ Found a → asked_of g ≡ a
+found_is : (g : List ℕ) (a : Asked) → wholly g ≡ Some a → asked_of g ≡ a
 found_is g a e = go (ltb (length g) 7) refl
   where
     go : (b : Bool) → ltb (length g) 7 ≡ b → asked_of g ≡ a
     go true eb =
-        absurd (let same : Nothing ≡ Found a = sym (ap (λ (b : Bool). cond b Nothing (Found (asked_of g))) eb) ∙ e in let z : ◌≡◌ {A = ℕ} 0 1 = cc in omega arith)
-    go false eb = let same : Found (asked_of g) ≡ Found a = sym (ap (λ (b : Bool). cond b Nothing (Found (asked_of g))) eb) ∙ e in cc
+        absurd (let same : None ≡ Some a = sym (ap (λ (b : Bool). cond b None (Some (asked_of g))) eb) ∙ e in let z : ◌≡◌ {A = ℕ} 0 1 = cc in omega arith)
+    go false eb = let same : Some (asked_of g) ≡ Some a = sym (ap (λ (b : Bool). cond b None (Some (asked_of g))) eb) ∙ e in cc
 
 pub each_is : (gs : List (List ℕ)) (asks : List Asked) → length gs ≡ length asks
-    → ((place : ℕ) → wholly (at_place [] gs place) ≡ at_place Nothing (map Found asks) place) → map asked_of gs ≡ asks
+    → ((place : ℕ) → wholly (at_place [] gs place) ≡ at_place None (map Some asks) place) → map asked_of gs ≡ asks
 each_is [] [] e h = refl
 each_is [] (a ∷ asks) e h = absurd (omega arith)
 each_is (g ∷ gs) [] e h = absurd (omega arith)
 each_is (g ∷ gs) (a ∷ asks) e h =
     ap₂ (λ (x : Asked) (l : List Asked). x ∷ l) (found_is g a (h 1)) (each_is gs asks (omega arith) (λ place. later place))
   where
-    later : (place : ℕ) → wholly (at_place [] gs place) ≡ at_place Nothing (map Found asks) place
+    later : (place : ℕ) → wholly (at_place [] gs place) ≡ at_place None (map Some asks) place
     later zero = refl
     later (suc k) = h (suc (suc k))

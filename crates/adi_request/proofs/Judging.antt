@@ -2,24 +2,29 @@
 -- Assumes nothing.
 use mathlib.Core.Path.{◌≡◌, refl, sym, ap, ◌∙◌}
 use mathlib.Core.Bool.{Bool, true, false, ◌||◌, cond}
-use mathlib.Core.List.{List, []}
+use mathlib.Core.List.{List, [], ◌∷◌}
 use Prim.Native.Nat.{ℕ, zero, suc, ◌+◌, ◌-◌, ◌*◌, ◌/◌, ◌%◌, ◌≤◌, ◌<◌}
 use native.Mathlib.Omega.{arith}
 use lib.Dec.{T, eqb, ltb}
-use lib.ListN.{length, get_or, drop, length-drop, length-map}
+use lib.ListN.{length, get_or, drop, drop_of_length-le, length-drop, length-map}
 use lib.Seq.{drop-drop}
-use borrow.Author.Tests.{eqb-true, eqb-false, ltb-true, ltb-false, eq-eqb, ne_eqb, lt-ltb, le-ltb, not-false}
+use borrow.Author.Tests.{eqb-true, eqb-false, ltb-true, ltb-false, eq-eqb, lt-ltb, le-ltb, not-false}
+use Rattle.std.specs.Prelude.{None, Some, Result, Ok, Err}
 use Rattle.wire.specs.Refusal.{first, numbered}
 use Rattle.wire.proofs.Bools.{or_neither}
-use Rattle.wire.proofs.InTurn.{in_turn_numbered}
-use Rattle.wire.proofs.Refusal.{none_first}
+use Rattle.wire.proofs.InTurn.{in_turn_numbered, turn_passes, turn_decides}
+use Rattle.wire.proofs.Answer.{none_judged}
+use Rattle.wire.specs.Answer.{judged}
+use Rattle.wire.specs.InTurn.{in_turn}
+use Rattle.wire.specs.declared.refusals.Refusal.{Refusal}
+use Rattle.adi_request.proofs.Stores.{given_next}
 use Rattle.adi.specs.Head.{count_of, body_of, other_count}
 use Rattle.adi.proofs.Groups.{group_of_size, count_of_size}
+use Rattle.adi.proofs.Room.{some_judged}
 use Rattle.adi_request.specs.Layout.{asked_of, groups_of}
 use Rattle.adi_request.specs.Reading.{not_sevens, bad_count, group_rules, request_rules, wholly, asked_at}
 use Rattle.adi_request.specs.Writing.{given_by, given, bad_number, asked_rules, judge_rules}
 use Rattle.adi_request.specs.declared.Asked.{Asked}
-use Rattle.adi_request.specs.declared.AskedAt.TheVariants.{Asked as Found, Nothing}
 
 pub record Sevens (n : ℕ) : Type 0 where
   pub some : 7 ≤ n
@@ -81,39 +86,20 @@ pub judge_numbered : (asks : List Asked) → T (numbered (judge_rules asks))
 judge_numbered asks = in_turn_numbered asked_rules (λ a. tt) asks
 
 -- as the code counts them
-pub groups_counted : (s : List ℕ) (n : ℕ) → first (request_rules s) ≡ 0 → n ≡ count_of s → n / 7 ≡ length (groups_of s)
-groups_counted s n z e =
-    let good = (none_first (request_rules s) (request_numbered s) z).1.0 in
-    ap (λ (k : ℕ). k / 7) (e ∙ count_is s good) ∙ sym (body_groups s good)
+pub groups_counted : (s : List ℕ) (n : ℕ) → bad_count s ≡ false → n ≡ count_of s → n / 7 ≡ length (groups_of s)
+groups_counted s n good e = ap (λ (k : ℕ). k / 7) (e ∙ count_is s good) ∙ sym (body_groups s good)
 
 -- ---- a place, as the code asks for it
-pub nothing_past : (s : List ℕ) (place : ℕ) → length (body_of s) / 7 < place → asked_at s place ≡ Nothing
+pub nothing_past : (s : List ℕ) (place : ℕ) → length (body_of s) / 7 < place → asked_at s place ≡ None
 unfolding asked_at
 nothing_past s zero h = refl
 nothing_past s (suc k) h =
     let g = get_or (groups_of s) k [] in
     let here : length g ≡ length (body_of s) - k * 7 = ap length (group_of_size 6 (body_of s) k) ∙ length-drop (k * 7) (body_of s) in
     let short : length g < 7 = omega (arith, here) in
-    ap (λ (b : Bool). cond b Nothing (Found (asked_of g))) (lt-ltb _ _ short)
+    ap (λ (b : Bool). cond b None (Some (asked_of g))) (lt-ltb _ _ short)
 
--- n bytes stand after function and byte count
-module _ (s : List ℕ) (n : ℕ) (e : n ≡ length s - 2) where
-  pub no_place : (place : ℕ) → (eqb place 0 || ltb (n / 7) place) ≡ true → Nothing ≡ asked_at s place
-  unfolding asked_at
-  no_place zero t = refl
-  no_place (suc k) t =
-      let other : eqb (suc k) 0 ≡ false = ne_eqb (suc k) 0 (λ z. omega arith) in
-      let past : n / 7 < suc k = ltb-true _ _ (sym (ap (λ (b : Bool). b || ltb (n / 7) (suc k)) other) ∙ t) in
-      sym (nothing_past s (suc k) (omega (arith, length-drop 2 s, e)))
-
-  pub a_place : (place : ℕ) → (eqb place 0 || ltb (n / 7) place) ≡ false → (1 ≤ place) × (place * 7 + 2 ≤ length s)
-  a_place place t =
-      let p = or_neither (eqb place 0) _ t in
-      let some : place ≡ 0 → ⊥ = eqb-false place 0 p.0 in
-      let within : place ≤ n / 7 = ltb-false _ _ p.1 in
-      (omega arith, omega (arith, e))
-
-pub at_place_lem : (s : List ℕ) (place : ℕ) (g : List ℕ) → 1 ≤ place → place * 7 + 2 ≤ length s → g ≡ drop (place * 7 - 5) s → Found (asked_of g) ≡ asked_at s place
+pub at_place_lem : (s : List ℕ) (place : ℕ) (g : List ℕ) → 1 ≤ place → place * 7 + 2 ≤ length s → g ≡ drop (place * 7 - 5) s → Some (asked_of g) ≡ asked_at s place
 unfolding asked_at
 at_place_lem s zero g h w e = absurd (omega arith)
 at_place_lem s (suc k) g h w e =
@@ -121,4 +107,29 @@ at_place_lem s (suc k) g h w e =
     let here : g ≡ get_or (groups_of s) k [] = e ∙ ap (λ (j : ℕ). drop j s) start ∙ sym (drop-drop (k * 7) 2 s) ∙ sym (group_of_size 6 (body_of s) k) in
     let long : length g ≡ length s - (suc k * 7 - 5) = ap length e ∙ length-drop (suc k * 7 - 5) s in
     let enough : 7 ≤ length g = omega (arith, long) in
-    sym (ap wholly (sym here) ∙ ap (λ (b : Bool). cond b Nothing (Found (asked_of g))) (le-ltb _ _ enough))
+    sym (ap wholly (sym here) ∙ ap (λ (b : Bool). cond b None (Some (asked_of g))) (le-ltb _ _ enough))
+
+-- ---- groups as they are given, judged one after another: i of them were let through, and a is what the next asks for
+module _ (gs : List (List ℕ)) (i : ℕ) (h : i < length gs) (a : Asked) (e : a ≡ given_by (get_or gs i [])) where
+  rules_at : first (asked_rules a) ≡ first (asked_rules (given_by (get_or gs i [])))
+  rules_at = ap (λ (x : Asked). first (asked_rules x)) e
+
+  here : first (in_turn asked_rules (given (drop i gs))) ≡ first (in_turn asked_rules (given_by (get_or gs i []) ∷ given (drop (i + 1) gs)))
+  here = ap (λ (asks : List Asked). first (in_turn asked_rules asks)) (given_next gs i h)
+
+  pub given_passes : ◌≡◌ {A = Result Unit Refusal} (Ok tt) (judged tt (first (asked_rules a)))
+      → first (in_turn asked_rules (given (drop (i + 1) gs))) ≡ first (in_turn asked_rules (given (drop i gs)))
+  given_passes j =
+      sym (here ∙ turn_passes asked_rules (λ x. tt) (given_by (get_or gs i [])) (given (drop (i + 1) gs)) 0 (sym (none_judged tt _ tt j) ∙ rules_at) refl)
+
+  pub given_decides : (r : Refusal) → ◌≡◌ {A = Result Unit Refusal} (Err r) (judged tt (first (asked_rules a)))
+      → ◌≡◌ {A = Result Unit Refusal} (Err r) (judged tt (first (in_turn asked_rules (given (drop i gs)))))
+  given_decides r j =
+      j
+      ∙ ap (judged tt)
+      (turn_decides asked_rules (λ x. tt) (given_by (get_or gs i [])) (given (drop (i + 1) gs)) _ rules_at (some_judged _ r j)
+      ∙ sym here)
+
+pub given_pass : (gs : List (List ℕ)) (i : ℕ) → length gs ≤ i → first (in_turn asked_rules (given (drop i gs))) ≡ 0
+unfolding in_turn
+given_pass gs i h = ap (λ (rest : List (List ℕ)). first (in_turn asked_rules (given rest))) (drop_of_length-le gs {i = i} h)

@@ -1,5 +1,6 @@
-pub mod Judging
+pub mod Chunks
 pub mod Stores
+pub mod Judging
 pub mod Bytes
 pub mod RoundTrip
 pub mod Places

@@ -7,26 +7,25 @@ use Prim.Native.Nat.{ℕ, ◌*◌, ◌≤◌}
 use native.Mathlib.Omega.{arith}
 use lib.ListN.{length, take}
 use borrow.Author.Tests.{eqb-true, not-false, eq-eqb, le-ltb}
+use Rattle.std.specs.Prelude.{Ok}
+use Rattle.wire.specs.Writes.{Written}
 use Rattle.wire.specs.Each.{Bytes}
 use Rattle.wire.specs.InTurn.{in_turn, Faultless}
 use Rattle.wire.specs.Numbers.{over}
 use Rattle.wire.specs.Refusal.{◌when◌, first, NoneHolds}
-use Rattle.wire.specs.declared.Written.{Written}
-use Rattle.wire.specs.declared.Written.TheVariants.{Length}
-use Rattle.wire.proofs.Answer.{answered_none, accepted_as}
+use Rattle.wire.proofs.Answer.{judged_none, accepted_as}
 use Rattle.wire.proofs.Bools.{neither_or, or_neither}
 use Rattle.wire.proofs.InTurn.{in_turn_law}
-use Rattle.wire.proofs.Refusal.{none_first, first_none, none_append, none_both, numbered_append}
+use Rattle.wire.proofs.Rules.{none_first, first_none, none_append, none_both, numbered_append}
 use Rattle.wire.proofs.Writes.{wrote_front, wrote_all}
 use Rattle.adi.specs.Groups.{groups}
 use Rattle.adi.specs.Head.{count_of, body_of, other_count}
 use Rattle.adi.specs.Room.{no_room}
 use Rattle.adi_request.specs.Layout.{asked_of, six, groups_of, body_bytes, request_bytes}
-use Rattle.adi_request.specs.Reading.{not_sevens, group_rules, request_rules, read_request, asked_at, told_request}
+use Rattle.adi_request.specs.Reading.{not_sevens, group_rules, request_rules, read_request, asked_at}
 use Rattle.adi_request.specs.Writing.{asked_rules, judge_rules, write_rules, WritesRequest}
 use Rattle.adi_request.specs.Promise.{Says, Words}
 use Rattle.adi_request.specs.declared.Asked.{Asked}
-use Rattle.adi_request.specs.declared.RequestRead.TheVariants.{Groups, Refused}
 use Rattle.adi_request.proofs.Bytes.{body_count, body_faultless, body_each, body_again, again_faultless, each_is}
 use Rattle.adi_request.proofs.Judging.{request_numbered, judge_numbered, count_is, body_sevens, body_groups}
 use Rattle.adi_request.proofs.Stores.{length_body}
@@ -49,11 +48,11 @@ module _ (asks : List Asked) (words : Words asks) (none : NoneHolds (judge_rules
   unfolding read_request asked_at request_bytes
   bytes_say =
       record {
-        count = answered_none Refused _ _ (first_none (request_rules (request_bytes asks)) written_good) ∙ ap Groups (body_count asks);
+        count = judged_none _ _ (first_none (request_rules (request_bytes asks)) written_good) ∙ ap Ok (body_count asks);
         each = body_each asks words;
       }
 
-pub request_reads_back : (asks : List Asked) (out : List ℕ) (r : Written) (out' : List ℕ) (k : ℕ) → Words asks → WritesRequest asks out r out' → r ≡ Length k
+pub request_reads_back : (asks : List Asked) (out : List ℕ) (r : Written) (out' : List ℕ) (k : ℕ) → Words asks → WritesRequest asks out r out' → r ≡ Ok k
     → Says (take k out') asks
 request_reads_back asks out r out' k words w e =
     let front = wrote_front _ _ out r out' k w e in
@@ -62,9 +61,9 @@ request_reads_back asks out r out' k words w e =
 
 -- ---- what was read is written again
 module _ (s : List ℕ) (asks : List Asked) (bytes : Bytes s) (says : Says s asks) where
-  accepted : (first (request_rules s) ≡ 0) × (Groups (length (groups_of s)) ≡ Groups (length asks))
+  accepted : (first (request_rules s) ≡ 0) × (length (groups_of s) ≡ length asks)
   unfolding read_request
-  accepted = accepted_as Refused (Groups (length (groups_of s))) (λ x. (told_request x).number) (λ n. refl) _ _ says.count refl
+  accepted = accepted_as (length (groups_of s)) _ (length asks) says.count
 
   none_of : NoneHolds (request_rules s)
   none_of = none_first (request_rules s) (request_numbered s) accepted.0
@@ -73,7 +72,7 @@ module _ (s : List ℕ) (asks : List Asked) (bytes : Bytes s) (says : Says s ask
   faultless = (in_turn_law group_rules (λ g. tt) (groups_of s)).1 (first_none (in_turn group_rules (groups_of s)) none_of.1.1)
 
   as_many : length (groups_of s) ≡ length asks
-  as_many = let same = accepted.1 in cc
+  as_many = accepted.1
 
   asked_are : map asked_of (groups_of s) ≡ asks
   unfolding asked_at
@@ -107,11 +106,11 @@ bytes_again (f ∷ n ∷ d) asks bytes says =
     ap₂ (λ (x y : ℕ). x ∷ y ∷ body_bytes asks) (sym function) (sym count) ∙ ap (λ (l : List ℕ). f ∷ n ∷ l) body
 
 pub request_writes_again : (s : List ℕ) (asks : List Asked) (out : List ℕ) (r : Written) (out' : List ℕ) → Bytes s → Says s asks → length s ≤ length out
-    → WritesRequest asks out r out' → (r ≡ Length (length s)) × (out' ≡ over out s)
+    → WritesRequest asks out r out' → (r ≡ Ok (length s)) × (out' ≡ over out s)
 request_writes_again s asks out r out' bytes says room w =
     let again = bytes_again s asks bytes says in
     let fits : length (request_bytes asks) ≤ length out = omega (arith, ap length again) in
     let none : NoneHolds (write_rules asks out) =
     none_both (judge_rules asks) (16 when no_room (request_bytes asks) out ∷ []) (judged_again s asks bytes says) (le-ltb _ _ fits, tt) in
     let all = wrote_all _ _ out r out' w (first_none (write_rules asks out) none) in
-    (all.0 ∙ ap (λ (l : List ℕ). Length (length l)) again, all.1 ∙ ap (over out) again)
+    (all.0 ∙ ap (λ (l : List ℕ). Ok (length l)) again, all.1 ∙ ap (over out) again)

@@ -2,32 +2,27 @@
 -- Assumes nothing.
 use mathlib.Core.Path.{◌≡◌, refl, sym, ap, ap₂, ◌∙◌}
 use mathlib.Core.List.{List, [], ◌∷◌}
-use Prim.Native.Nat.{ℕ, suc, ◌+◌, ◌*◌, ◌≤◌, ◌<◌}
+use Prim.Native.Nat.{ℕ, ◌+◌, ◌-◌, ◌*◌, ◌≤◌, ◌<◌}
 use native.Mathlib.Numerals.{add-one}
 use native.Mathlib.Omega.{arith}
 use lib.ListN.{length, get_or, set, drop, length-append, length-map, drop_of_length-le}
 use lib.Seq.{sets, drop-cons}
+use borrow.Rule.Slice.PartMut.{put_mid}
 use Rattle.wire.specs.Numbers.{digits, be}
-use Rattle.wire.proofs.Writing.{sets_append}
+use Rattle.wire.proofs.Writing.{put_part, sets_append}
 use Rattle.adi_request.specs.Layout.{group_bytes, body_bytes, request_bytes}
 use Rattle.adi_request.specs.Writing.{given_by, given}
 use Rattle.adi_request.specs.declared.Asked.{Asked}
 
--- seven stores
-pub seven : (out : List ℕ) (at a b c d e f g : ℕ)
-    → set (set (set (set (set (set (set out at a) (at + 1) b) (at + 2) c) (at + 3) d) (at + 4) e) (at + 5) f) (at + 6) g ≡ sets out at (a ∷ b ∷ c ∷ d ∷ e ∷ f ∷ g ∷ [])
-seven out at a b c d e f g =
-    let e1 : at + 1 ≡ suc at = omega arith in
-    let e2 : at + 2 ≡ suc (suc at) = omega arith in
-    let e3 : at + 3 ≡ suc (suc (suc at)) = omega arith in
-    let e4 : at + 4 ≡ suc (suc (suc (suc at))) = omega arith in
-    let e5 : at + 5 ≡ suc (suc (suc (suc (suc at)))) = omega arith in
-    let e6 : at + 6 ≡ suc (suc (suc (suc (suc (suc at))))) = omega arith in
-    cc
-
 length_group : (a : Asked) → length (group_bytes a) ≡ 7
 unfolding group_bytes be digits
 length_group a = refl
+
+-- a group's bytes, copied to their place
+pub group_put : (out new : List ℕ) (at : ℕ) (a : Asked) → new ≡ group_bytes a → at + 7 ≤ length out → put_mid at (at + 7 - at) out new ≡ sets out at (group_bytes a)
+group_put out new at a e h =
+    let n = length_group a in
+    ap (λ (k : ℕ). put_mid at (at + k - at) out new) (sym n) ∙ put_part out at (group_bytes a) new e (omega (arith, n))
 
 pub length_body : (asks : List Asked) → length (body_bytes asks) ≡ length asks * 7
 unfolding body_bytes

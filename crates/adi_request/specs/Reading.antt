@@ -1,17 +1,16 @@
 -- What is judged of a request, and what is answered.
 -- Assumes nothing.
-use Rattle.std.specs.Prelude.{ℕ, ◌%◌, Bool, not, ◌||◌, cond, List, [], ◌∷◌, eqb, ltb, length}
-use Rattle.wire.specs.Answer.{answered}
+use Rattle.std.specs.Prelude.{ℕ, ◌%◌, Bool, not, ◌||◌, cond, List, [], ◌∷◌, eqb, ltb, length, Option, None, Some, Result, Ok, Err}
+use Rattle.wire.specs.Answer.{judged}
 use Rattle.wire.specs.InTurn.{in_turn}
 use Rattle.wire.specs.Refusal.{Rule, ◌when◌, first}
 use Rattle.wire.specs.Told.{Told, accepted, refused}
 use Rattle.adi.specs.Groups.{at_place}
 use Rattle.adi.specs.Head.{count_of, not_function, other_count}
 use Rattle.adi_request.specs.Layout.{type_of, file_of, record_of, length_of, asked_of, groups_of}
-use Rattle.adi_request.specs.declared.AskedAt.{AskedAt}
-use Rattle.adi_request.specs.declared.AskedAt.TheVariants.{Asked as Found, Nothing}
-use Rattle.adi_request.specs.declared.RequestRead.{RequestRead}
-use Rattle.adi_request.specs.declared.RequestRead.TheVariants.{Groups, Refused}
+use Rattle.adi_request.specs.declared.Asked.{Asked}
+use Rattle.wire.specs.Numbered.{number_of}
+use Rattle.wire.specs.declared.refusals.Refusal.{Refusal}
 
 -- of a byte count
 abbrev pub not_sevens : ℕ → Bool
@@ -49,16 +48,16 @@ abbrev pub request_rules : List ℕ → List Rule
 request_rules s = 10 when not_function s ∷ 80 when bad_count s ∷ in_turn group_rules (groups_of s)
 
 -- how many groups
-unfoldable pub read_request : List ℕ → RequestRead
-read_request s = answered Refused (Groups (length (groups_of s))) (first (request_rules s))
+unfoldable pub read_request : List ℕ → Result ℕ Refusal
+read_request s = judged (length (groups_of s)) (first (request_rules s))
 
 -- a group that is not there, or not whole, asks for nothing
-abbrev pub wholly : List ℕ → AskedAt
-wholly g = cond (ltb (length g) 7) Nothing (Found (asked_of g))
+abbrev pub wholly : List ℕ → Option Asked
+wholly g = cond (ltb (length g) 7) None (Some (asked_of g))
 
-unfoldable pub asked_at : List ℕ → ℕ → AskedAt
+unfoldable pub asked_at : List ℕ → ℕ → Option Asked
 asked_at s place = wholly (at_place [] (groups_of s) place)
 
-abbrev pub told_request : RequestRead → Told
-told_request (Groups n) = accepted (n ∷ [])
-told_request (Refused n) = refused n
+abbrev pub told_request : Result ℕ Refusal → Told
+told_request (Ok n) = accepted (n ∷ [])
+told_request (Err e) = refused (number_of e)

@@ -3,8 +3,7 @@
 use Rattle.std.specs.Prelude.{ℕ, ◌*◌, Bool, List, [], ◌∷◌, ◌++◌, map, length, get_or}
 use Rattle.wire.specs.InTurn.{in_turn}
 use Rattle.wire.specs.Refusal.{Rule, ◌when◌, first}
-use Rattle.wire.specs.Writes.{Writes}
-use Rattle.wire.specs.declared.Written.{Written}
+use Rattle.wire.specs.Writes.{Written, Writes}
 use Rattle.adi.specs.Room.{no_room}
 use Rattle.adi_request.specs.Layout.{request_bytes}
 use Rattle.adi_request.specs.Reading.{not_sevens, bad_record, no_length}

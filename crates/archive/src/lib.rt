@@ -5,22 +5,22 @@ ghost use Rattle.std.specs.Prelude.{◌≡◌};
 ghost use Rattle.archive.specs.Archive.{type_from, type_number, source_from, source_number};
 
 // What an archive holds.
-#[derive(Clone, Copy)]
+#[derive(Clone, Copy, Debug, PartialEq, Eq)]
 pub enum ArchiveKind {
-    Hourly,
-    Daily,
-    Monthly,
-    HalfHourly,
+    Hourly = 1,
+    Daily = 2,
+    Monthly = 3,
+    HalfHourly = 4,
 }
 
 // Where a reading came from: read as it stood, or out of an archive.
-#[derive(Clone, Copy)]
+#[derive(Clone, Copy, Debug, PartialEq, Eq)]
 pub enum Source {
     Current,
     Archive(ArchiveKind),
 }
 
-// A number that is none of the four is the last kind.
+// A number that is none of the four is the last kind: it answers every number, as its clause says, which a TryFrom would not.
 pub fn type_from(number: u16) -> ArchiveKind
     ensures { result ≡ type_from number }
 {
@@ -32,14 +32,11 @@ pub fn type_from(number: u16) -> ArchiveKind
     }
 }
 
-pub fn type_number(kind: ArchiveKind) -> u8
-    ensures { result ≡ type_number kind }
-{
-    match kind {
-        ArchiveKind::Hourly => 1,
-        ArchiveKind::Daily => 2,
-        ArchiveKind::Monthly => 3,
-        ArchiveKind::HalfHourly => 4,
+impl From<ArchiveKind> for u8 {
+    ghost from_gives = { λ kind n. n ≡ type_number kind };
+
+    fn from(kind: ArchiveKind) -> u8 {
+        kind as u8
     }
 }
 
@@ -52,11 +49,13 @@ pub fn source_from(number: u8) -> Source
     Source::Archive(type_from(number as u16))
 }
 
-pub fn source_number(source: Source) -> u8
-    ensures { result ≡ source_number source }
-{
-    match source {
-        Source::Current => 0,
-        Source::Archive(kind) => type_number(kind),
+impl From<Source> for u8 {
+    ghost from_gives = { λ source n. n ≡ source_number source };
+
+    fn from(source: Source) -> u8 {
+        match source {
+            Source::Current => 0,
+            Source::Archive(kind) => u8::from(kind),
+        }
     }
 }

@@ -2,30 +2,30 @@
 -- Assumes nothing.
 use mathlib.Core.Path.{◌≡◌, refl}
 use mathlib.Core.List.{List, [], ◌∷◌, ◌++◌}
-use Prim.Native.Nat.{ℕ, ◌%◌, ◌^◌, ◌<◌}
+use Prim.Native.Nat.{ℕ, ◌^◌, ◌<◌}
 use native.Mathlib.Omega.{arith}
 use lib.ListN.{length, get_or}
 use borrow.Author.Tests.{ltb-false}
 use Rattle.wire.specs.Refusal.{◌when◌, NoneHolds}
-use Rattle.bits.specs.Fields.{joined, unpacked, values_from, total, Fit}
+use Rattle.bits.specs.Fields.{joined, packed, unpacked, values_from, total, Fit}
 use Rattle.bits.proofs.Bits.{length_bytes_of}
 use Rattle.bits.proofs.Fields.{value_fits}
-use Rattle.card.specs.Layout.{fields, widths_of, after_fields, own_of, spare_of, Lawful}
+use Rattle.card.specs.Layout.{fields, widths_of, after_fields, own_of, Lawful}
 use Rattle.card.specs.declared.Card.{Card}
-use Rattle.card.proofs.Widths.{form_whole}
 use Rattle.archive_card.specs.Layout.{bad_archive, archive_form, archive_bytes, archive_number}
 
-pub archive_whole : (s : List ℕ) (r : ℕ) → r ≡ get_or (unpacked (widths_of archive_form) s) 10 0 % 2 ^ 64 → r ≡ archive_number s
+pub archive_found : (s : List ℕ) → get_or (unpacked (widths_of archive_form) s) 10 0 ≡ archive_number s
 unfolding after_fields values_from
-archive_whole s r e = form_whole archive_form s 10 r (omega arith, (omega arith, tt)) e
-
-pub spare_whole : (s : List ℕ) (r : ℕ) → r ≡ get_or (unpacked (widths_of archive_form) s) 11 0 % 2 ^ 64 → r ≡ spare_of archive_form s
-unfolding after_fields values_from
-spare_whole s r e = form_whole archive_form s 11 r (omega arith, (omega arith, tt)) e
+archive_found s = refl
 
 pub archive_fits : (s : List ℕ) → archive_number s < 2 ^ 3
 unfolding after_fields values_from
 archive_fits s = value_fits (widths_of archive_form) s 10
+
+-- a value that is missing is 0, and so are the spare bits
+pub spare_missing : (card : Card) (kind : ℕ) → packed 18 (widths_of archive_form) (fields card ++ (kind ∷ [])) ≡ archive_bytes card kind
+unfolding archive_bytes joined
+spare_missing card kind = refl
 
 -- its one own field
 pub own_one : (s : List ℕ) → own_of archive_form s ≡ archive_number s ∷ []

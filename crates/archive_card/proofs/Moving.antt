@@ -12,7 +12,7 @@ use borrow.Author.Tests.{eqb-true, not-false}
 use Rattle.wire.specs.Each.{Bytes}
 use Rattle.wire.specs.Numbers.{digits, number, field, over}
 use Rattle.wire.specs.Refusal.{NoneHolds}
-use Rattle.wire.proofs.Refusal.{none_append}
+use Rattle.wire.proofs.Rules.{none_append}
 use Rattle.wire.proofs.Fields.{field_take}
 use Rattle.wire.proofs.Writing.{sets_then}
 use Rattle.bits.specs.Bits.{bits, of_bits, bytes_of}

@@ -4,7 +4,7 @@ use mathlib.Core.Path.{sym, ◌∙◌}
 use mathlib.Core.List.{List}
 use Prim.Native.Nat.{ℕ}
 use Rattle.wire.specs.Unique.{Unique}
-use Rattle.wire.specs.declared.Written.{Written}
+use Rattle.wire.specs.Writes.{Written}
 use Rattle.wire.proofs.Writes.{writes_once}
 use Rattle.archive_card.proofs.read_archive_card.Reads as read-archive-card
 use Rattle.archive_card.proofs.write_archive_card.Reads as write-archive-card

@@ -2,46 +2,51 @@
 // from one form to the other.
 #![tactic(auto)]
 
-ghost use Rattle.std.specs.Prelude.{◌≡◌};
-ghost use Rattle.std.proofs.lemmas.List.Edits.{sets};
+ghost use Rattle.std.specs.Prelude.{◌≡◌, [], ◌∷◌};
+ghost use Rattle.archive_card.specs.Laid.{archive_laid};
+ghost use Rattle.wire.specs.Answer.{judged};
 ghost use Rattle.wire.specs.Refusal.{first};
 ghost use Rattle.wire.specs.Writes.{Writes};
-ghost use Rattle.card.specs.Reading.{spare_set, later_rules};
-ghost use Rattle.archive_card.specs.Layout.{bad_archive, archive_form, archive_bytes, archive_number, archive_card_from};
-ghost use Rattle.archive_card.specs.Reading.{archive_rules, read_archive_card, archive_write_rules};
+ghost use Rattle.archive_card.specs.Layout.{bad_archive, own_rules, archive_form, archive_bytes, archive_number, archive_card_from};
+ghost use Rattle.archive_card.specs.Reading.{read_archive_card, archive_write_rules};
 ghost use Rattle.archive_card.specs.Moving.{new_bytes, new_rules, old_bytes, not_current, back_rules, old_rules};
 
 use archive::Source;
 use card::fields::Fields;
-use card::{Card, fields};
-use wire::Written;
+use card::forms::CardForm;
+use card::{Card, fields, forms};
+use wire::{Refusal, Written};
 
-const WIDTHS: [u8; 12] = [27, 5, 7, 4, 5, 5, 6, 6, 2, 64, 3, 10];
+static WIDTHS: [u8; 12] = [27, 5, 7, 4, 5, 5, 6, 6, 2, 64, 3, 10];
 
-#[derive(Clone, Copy)]
+#[derive(Clone, Copy, Debug, PartialEq, Eq)]
 pub struct ArchiveCard {
     pub card: Card,
     pub source: Source,
 }
 
-#[derive(Clone, Copy)]
-pub enum ArchiveCardRead {
-    Card(ArchiveCard),
-    Refused(u8),
-}
+impl CardForm for ArchiveCard {
+    const SIZE: usize = 18;
 
-fn spare_set(bytes: &[u8]) -> bool
-    ensures { result ≡ spare_set archive_form bytes.now }
-{
-    let widths = WIDTHS;
-    bits::field_at(bytes, &widths, 11) != 0
+    const SPARE: u8 = 11;
+
+    ghost SIZE = { 18 };
+
+    ghost SPARE = { 11 };
+
+    ghost form = { archive_form };
+
+    fn widths() -> &'static [u8] {
+        &WIDTHS
+    }
+
+    ghost laid = { archive_laid };
 }
 
 fn archive_number(bytes: &[u8]) -> u8
     ensures { result ≡ archive_number bytes.now }
 {
-    let widths = WIDTHS;
-    bits::field_at(bytes, &widths, 10) as u8
+    forms::field_at::<ArchiveCard>(bytes, 10) as u8
 }
 
 fn bad_archive(kind: u8) -> bool
@@ -50,21 +55,13 @@ fn bad_archive(kind: u8) -> bool
     4 < kind
 }
 
-// The number of the first rule after 50 that holds, 0 where none does.
-fn later_fault(bytes: &[u8], f: Fields) -> u8
-    ensures { result ≡ first (later_rules archive_form bytes.now f) }
+fn judge_archive(kind: u8) -> Result<(), Refusal>
+    ensures { result ≡ judged tt (first (own_rules (kind ∷ []))) }
 {
-    if spare_set(bytes) {
-        return 51;
+    if bad_archive(kind) {
+        return Err(Refusal::BadArchiveKind);
     }
-    let refusal = fields::judge_fields(f);
-    if refusal != 0 {
-        return refusal;
-    }
-    if bad_archive(archive_number(bytes)) {
-        return 56;
-    }
-    0
+    Ok(())
 }
 
 fn archive_card_from(f: Fields, kind: u8) -> ArchiveCard
@@ -76,62 +73,22 @@ fn archive_card_from(f: Fields, kind: u8) -> ArchiveCard
     }
 }
 
-pub fn read_archive_card(bytes: &[u8]) -> ArchiveCardRead
+pub fn read_archive_card(bytes: &[u8]) -> Result<ArchiveCard, Refusal>
     ensures { result ≡ read_archive_card bytes.now }
 {
-    if fields::other_length(bytes, 18) {
-        return ArchiveCardRead::Refused(50);
-    }
-    let card = fields::first_bytes(bytes);
-    let f = fields::fields_of(&card);
-    let refusal = later_fault(bytes, f);
-    if refusal != 0 {
-        return ArchiveCardRead::Refused(refusal);
-    }
-    ArchiveCardRead::Card(archive_card_from(f, archive_number(bytes)))
-}
-
-// The number of the first rule that holds, 0 for a new card.
-fn fault_of(bytes: &[u8]) -> u8
-    ensures { result ≡ first (archive_rules bytes.now) }
-{
-    match read_archive_card(bytes) {
-        ArchiveCardRead::Card(_) => 0,
-        ArchiveCardRead::Refused(n) => n,
-    }
-}
-
-// Two words and two bytes; the spare bits have no value, and so are 0.
-fn put_archive_card(card: Card, kind: u8, out: &mut [u8])
-    ensures { out.new ≡ sets out.old 0 (archive_bytes card kind) }
-{
-    let widths = WIDTHS;
-    let values = fields::field_values(card, kind as u64);
-    bits::put_word(out, 0, bits::word_before(&widths, &values, 64));
-    bits::put_word(out, 8, bits::word_before(&widths, &values, 128));
-    wire::put_be16(
-        out,
-        16,
-        (bits::word_before(&widths, &values, 144) % 65536) as u16,
-    );
+    let f = forms::read_fields::<ArchiveCard>(bytes)?;
+    let kind = archive_number(bytes);
+    judge_archive(kind)?;
+    Ok(archive_card_from(f, kind))
 }
 
 // The archive kind by its number, 0 for a current reading.
 pub fn write_archive_card(card: Card, kind: u8, out: &mut [u8]) -> Written
     ensures { Writes (first (archive_write_rules card kind out.old)) (archive_bytes card kind) out.old result out.new }
 {
-    let refusal = fields::judge_card(card);
-    if refusal != 0 {
-        return Written::Refused(refusal);
-    }
-    if bad_archive(kind) {
-        return Written::Refused(56);
-    }
-    if fields::too_small(out, 18) {
-        return Written::Refused(16);
-    }
-    put_archive_card(card, kind, out);
-    Written::Length(18)
+    fields::judge_card(card)?;
+    judge_archive(kind)?;
+    forms::write_fields::<ArchiveCard>(card, kind as u64, out)
 }
 
 // Moves a card of 17 bytes to the new form, as a current reading: it and a byte 0. The length is asked here too, and so in `to_card`: bytes
@@ -140,19 +97,16 @@ pub fn to_archive_card(bytes: &[u8], out: &mut [u8]) -> Written
     ensures { Writes (first (new_rules bytes.now out.old)) (new_bytes bytes.now) out.old result out.new }
 {
     if fields::other_length(bytes, 17) {
-        return Written::Refused(50);
+        return Err(Refusal::OtherCardLength);
     }
-    let refusal = card::fault_of(bytes);
-    if refusal != 0 {
-        return Written::Refused(refusal);
-    }
+    card::fault_of(bytes)?;
     if fields::too_small(out, 18) {
-        return Written::Refused(16);
+        return Err(Refusal::NoRoom);
     }
     let card = fields::first_bytes(bytes);
     wire::put_all(out, 0, &card);
     wire::put(out, 17, 0);
-    Written::Length(18)
+    Ok(18)
 }
 
 fn not_current(bytes: &[u8]) -> bool
@@ -161,28 +115,25 @@ fn not_current(bytes: &[u8]) -> bool
     archive_number(bytes) != 0
 }
 
-// The first of the rules that a new card is not moved back by, 0 where none holds.
-fn back_later(bytes: &[u8], out: &[u8]) -> u8
-    ensures { result ≡ first (back_rules bytes.now out.now) }
+// Those of the rules that come after the reader's.
+fn judge_move(bytes: &[u8], out: &[u8]) -> Result<(), Refusal>
+    ensures { result ≡ judged tt (first (back_rules bytes.now out.now)) }
 {
     if not_current(bytes) {
-        return 57;
+        return Err(Refusal::NotCurrent);
     }
     if fields::too_small(out, 17) {
-        return 16;
+        return Err(Refusal::NoRoom);
     }
-    0
+    Ok(())
 }
 
-// The first fault in moving a new card back, 0 for none.
-fn back_fault(bytes: &[u8], out: &[u8]) -> u8
-    ensures { result ≡ first (old_rules bytes.now out.now) }
+// The first rule that a new card is not moved back by.
+fn judge_back(bytes: &[u8], out: &[u8]) -> Result<(), Refusal>
+    ensures { result ≡ judged tt (first (old_rules bytes.now out.now)) }
 {
-    let refusal = fault_of(bytes);
-    if refusal != 0 {
-        return refusal;
-    }
-    back_later(bytes, out)
+    read_archive_card(bytes)?;
+    judge_move(bytes, out)
 }
 
 // Moves a new card of a current reading back: its first 17 bytes.
@@ -190,13 +141,10 @@ pub fn to_card(bytes: &[u8], out: &mut [u8]) -> Written
     ensures { Writes (first (old_rules bytes.now out.old)) (old_bytes bytes.now) out.old result out.new }
 {
     if fields::other_length(bytes, 18) {
-        return Written::Refused(50);
+        return Err(Refusal::OtherCardLength);
     }
-    let refusal = back_fault(bytes, out);
-    if refusal != 0 {
-        return Written::Refused(refusal);
-    }
+    judge_back(bytes, out)?;
     let card = fields::first_bytes(bytes);
     wire::put_all(out, 0, &card);
-    Written::Length(17)
+    Ok(17)
 }

@@ -28,10 +28,8 @@ fn eight_at(s: &[u8], i: usize) -> u64
     ensures { result ≡ of_bits (field (bits_in s.now) (8 * i) 64) }
 {
     let mut v = 0;
-    let mut k = 0;
-    while k < 8 {
+    for k in 0..8 {
         v = v * 256 + wire::byte_at(s, i + k) as u64;
-        k += 1;
     }
     v
 }
@@ -51,6 +49,7 @@ fn word_at(s: &[u8], at: usize) -> u64
 }
 
 // The lowest 64 of w bits from a place on.
+#[inline(always)]
 fn bits_at(s: &[u8], at: usize, w: usize) -> u64
     requires { (at < 2 ^ 32) × (w < 256) }
     ensures { result ≡ of_bits (field (bits_in s.now) at w) % 2 ^ 64 }
@@ -67,15 +66,14 @@ fn place_of(widths: &[u8], k: u8) -> usize
     ensures { (result ≡ total (take k widths.now)) × (result < 65536) }
 {
     let mut at = 0;
-    let mut i: u8 = 0;
-    while i < k {
+    for i in 0..k {
         at += wire::byte_at(widths, i as usize) as usize;
-        i += 1;
     }
     at
 }
 
-// The lowest 64 bits of the field with k fields before it.
+// The lowest 64 bits of the field with k fields before it. Its caller knows the widths and k: in line, the place is no loop but a number.
+#[inline(always)]
 pub fn field_at(s: &[u8], widths: &[u8], k: u8) -> u64
     ensures { result ≡ get_or (unpacked widths.now s.now) k 0 % 2 ^ 64 }
 {
@@ -98,16 +96,14 @@ pub fn word_before(widths: &[u8], values: &[u64], end: usize) -> u64
 {
     let mut v = 0;
     let mut left = end;
-    let mut i = 0;
-    while i < widths.len() {
-        let w = wire::byte_at(widths, i) as usize;
+    for (i, width) in widths.iter().enumerate() {
+        let w = *width as usize;
         let x = value_at(values, i);
         if left < w {
             return with_low(v, left, without_low(x, w - left));
         }
         v = with_low(v, w, x);
         left -= w;
-        i += 1;
     }
     with_low(v, left, 0)
 }
@@ -116,15 +112,5 @@ pub fn word_before(widths: &[u8], values: &[u64], end: usize) -> u64
 pub fn put_word(out: &mut [u8], at: usize, v: u64)
     ensures { out.new ≡ sets out.old at (be 8 v) }
 {
-    let bytes = [
-        (v / 256 / 256 / 256 / 256 / 256 / 256 / 256 % 256) as u8,
-        (v / 256 / 256 / 256 / 256 / 256 / 256 % 256) as u8,
-        (v / 256 / 256 / 256 / 256 / 256 % 256) as u8,
-        (v / 256 / 256 / 256 / 256 % 256) as u8,
-        (v / 256 / 256 / 256 % 256) as u8,
-        (v / 256 / 256 % 256) as u8,
-        (v / 256 % 256) as u8,
-        (v % 256) as u8,
-    ];
-    wire::put_all(out, at, &bytes);
+    wire::put_all(out, at, &v.to_be_bytes());
 }

@@ -13,10 +13,9 @@ use borrow.Author.Tests.{eqb-true, eqb-false, eq-eqb, ne_eqb, ltb-false, le-ltb,
 use Rattle.wire.specs.Each.{Bytes}
 use Rattle.wire.specs.Numbers.{over}
 use Rattle.wire.specs.Refusal.{◌when◌, first, NoneHolds}
-use Rattle.wire.specs.Writes.{Writes}
-use Rattle.wire.specs.declared.Written.{Written}
-use Rattle.wire.specs.declared.Written.TheVariants.{Length}
-use Rattle.wire.proofs.Refusal.{none_first, first_none, none_append, none_both, numbered_append}
+use Rattle.std.specs.Prelude.{Ok}
+use Rattle.wire.specs.Writes.{Written, Writes}
+use Rattle.wire.proofs.Rules.{none_first, first_none, none_append, none_both, numbered_append}
 use Rattle.wire.proofs.Writes.{wrote_front, wrote_all}
 use Rattle.wire.proofs.Bools.{or_neither, neither_or}
 use Rattle.bits.specs.Bits.{bits_in}
@@ -150,7 +149,7 @@ module _ (f : Form) (law : Lawful f) where
 
   -- what is written reads back
   pub form_reads_back : (c : Card) (own out : List ℕ) (r : Written) (out' : List ℕ) (k : ℕ) → FitsKind c.value → length own ≡ length f.own
-      → Writes (first (form_write_rules f c own out)) (form_bytes f c own) out r out' → r ≡ Length k → Reads f (take k out') c own
+      → Writes (first (form_write_rules f c own out)) (form_bytes f c own) out r out' → r ≡ Ok k → Reads f (take k out') c own
   form_reads_back c own out r out' k fits counted w e =
       let p = wrote_front _ (form_bytes f c own) out r out' k w e in
       let more = f.rules own ++ (16 when too_small f.size out ∷ []) in
@@ -199,11 +198,11 @@ module _ (f : Form) (law : Lawful f) where
 
   -- what is read, written again, is the same bytes
   pub form_writes_again : (s : List ℕ) (c : Card) (own out : List ℕ) (r : Written) (out' : List ℕ) → Bytes s → Reads f s c own → f.size ≤ length out
-      → Writes (first (form_write_rules f c own out)) (form_bytes f c own) out r out' → (r ≡ Length f.size) × (out' ≡ over out s)
+      → Writes (first (form_write_rules f c own out)) (form_bytes f c own) out r out' → (r ≡ Ok f.size) × (out' ≡ over out s)
   form_writes_again s c own out r out' bytes read room w =
       let same : form_bytes f c own ≡ s = ap₂ (form_bytes f) (sym read.card) (sym read.further) ∙ form_again s read.good bytes in
       let cards = subst (λ (x : Card). NoneHolds (card_rules x)) read.card (form_written s read.good) in
       let owns = subst (λ (vs : List ℕ). NoneHolds (f.rules vs)) read.further (none_append (field_rules (fields_in s)) (f.rules (own_of f s)) read.good.1.1).1 in
       let none = none_both (card_rules c) (f.rules own ++ (16 when too_small f.size out ∷ [])) cards (none_both (f.rules own) (16 when too_small f.size out ∷ []) owns (le-ltb (length out) f.size room, tt)) in
       let p = wrote_all (first (form_write_rules f c own out)) (form_bytes f c own) out r out' w (first_none (form_write_rules f c own out) none) in
-      (p.0 ∙ ap Length (length_bytes_of f.size (joined (widths_of f) (fields c ++ (own ++ (0 ∷ []))))), p.1 ∙ ap (over out) same)
+      (p.0 ∙ ap Ok (length_bytes_of f.size (joined (widths_of f) (fields c ++ (own ++ (0 ∷ []))))), p.1 ∙ ap (over out) same)

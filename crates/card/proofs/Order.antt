@@ -4,16 +4,16 @@ use mathlib.Core.Path.{◌≡◌, refl, sym}
 use mathlib.Core.List.{List}
 use Prim.Native.Nat.{ℕ}
 use Rattle.wire.specs.Refusal.{first, FirstInOrder}
-use Rattle.wire.specs.Writes.{Writes, told_written}
-use Rattle.wire.specs.declared.Written.{Written}
+use Rattle.std.specs.Prelude.{Ok}
+use Rattle.wire.specs.Answer.{refuse}
+use Rattle.wire.specs.Writes.{Written, Writes, told_written}
 use Rattle.wire.proofs.Answer.{told_number, answer_first}
-use Rattle.wire.proofs.Refusal.{in_order}
+use Rattle.wire.proofs.Rules.{in_order}
 use Rattle.wire.proofs.Writes.{written_first}
 use Rattle.card.specs.Layout.{card_bytes, card_of}
 use Rattle.card.specs.Reading.{read_rules, read_card, told_card_read}
 use Rattle.card.specs.Writing.{write_rules}
 use Rattle.card.specs.declared.Card.{Card}
-use Rattle.card.specs.declared.CardRead.TheVariants as R
 
 pub fault_first : (s : List ℕ) (r : ℕ) → r ≡ first (read_rules s) → FirstInOrder (read_rules s) r
 fault_first s r e = in_order (read_rules s) r tt (sym e)
@@ -21,11 +21,11 @@ fault_first s r e = in_order (read_rules s) r tt (sym e)
 -- the number that the reader tells is the first rule's
 pub read_told : (s : List ℕ) → first (read_rules s) ≡ (told_card_read (read_card s)).number
 unfolding read_card
-read_told s = told_number R.Refused (R.Card (card_of s)) (λ x. (told_card_read x).number) (λ n. refl) refl (first (read_rules s))
+read_told s = told_number refuse (Ok (card_of s)) (λ x. (told_card_read x).number) (λ n. refl) (read_rules s) tt refl
 
 pub read_first : (s : List ℕ) → FirstInOrder (read_rules s) (told_card_read (read_card s)).number
 unfolding read_card
-read_first s = answer_first R.Refused (R.Card (card_of s)) (λ x. (told_card_read x).number) (λ n. refl) (read_rules s) tt refl
+read_first s = answer_first refuse (Ok (card_of s)) (λ x. (told_card_read x).number) (λ n. refl) (read_rules s) tt refl
 
 pub write_first : (c : Card) (out : List ℕ) (r : Written) (out' : List ℕ) → Writes (first (write_rules c out)) (card_bytes c) out r out'
     → FirstInOrder (write_rules c out) (told_written r).number

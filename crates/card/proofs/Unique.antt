@@ -4,7 +4,7 @@ use mathlib.Core.Path.{sym, ◌∙◌}
 use mathlib.Core.List.{List}
 use Prim.Native.Nat.{ℕ}
 use Rattle.wire.specs.Unique.{Unique}
-use Rattle.wire.specs.declared.Written.{Written}
+use Rattle.wire.specs.Writes.{Written}
 use Rattle.wire.proofs.Writes.{writes_once}
 use Rattle.card.proofs.fields.first_bytes.Reads as first-bytes
 use Rattle.card.proofs.fields.fields_of.Reads as fields-of
@@ -14,6 +14,9 @@ use Rattle.card.proofs.fields.card_from.Reads as card-from
 use Rattle.card.proofs.fields.judge_card.Reads as judge-card
 use Rattle.card.proofs.fields.too_small.Reads as too_small
 use Rattle.card.proofs.fields.field_values.Reads as field-values
+use Rattle.card.proofs.forms.field_at.Reads as field-at
+use Rattle.card.proofs.forms.read_fields.Reads as read-fields
+use Rattle.card.proofs.forms.write_fields.Reads as write-fields
 use Rattle.card.proofs.fault_of.Reads as fault-of
 use Rattle.card.proofs.read_card.Reads as read-card
 use Rattle.card.proofs.write_card.Reads as write-card
@@ -50,3 +53,12 @@ read_card_unique κs a r r' s s' e e' = e ∙ sym e'
 
 pub write_card_unique : Unique {Y = λ κs. Written × List ℕ} write-card.Post (λ κs r s. (r, s.1.0.now))
 write_card_unique κs a r r' s s' w w' = writes_once _ _ _ _ _ _ _ w w'
+
+pub field_at_unique : (F : _) (laws : _) (form : _) (dict : _) → Unique (field-at.Post F laws form dict) (λ κs r s. r)
+field_at_unique F laws form dict κs a r r' s s' e e' = e ∙ sym e'
+
+pub read_fields_unique : (F : _) (laws : _) (form : _) (dict : _) → Unique (read-fields.Post F laws form dict) (λ κs r s. r)
+read_fields_unique F laws form dict κs a r r' s s' e e' = e ∙ sym e'
+
+pub write_fields_unique : (F : _) (laws : _) (form : _) (dict : _) → Unique {Y = λ κs. Written × List ℕ} (write-fields.Post F laws form dict) (λ κs r s. (r, s.1.1.0.now))
+write_fields_unique F laws form dict κs a r r' s s' w w' = writes_once _ _ _ _ _ _ _ w w'

@@ -1,25 +1,22 @@
 -- The fields of a card fit their widths, so the code reads each whole.
 -- Assumes nothing.
-use mathlib.Core.Path.{◌≡◌, ap, ◌∙◌}
-use mathlib.Core.Bool.{Bool, false}
+use mathlib.Core.Path.{◌≡◌, sym, ap, ◌∙◌}
 use mathlib.Core.List.{List, [], ◌∷◌, ◌++◌}
 use Prim.Native.Nat.{ℕ, ◌+◌, ◌%◌, ◌^◌, ◌≤◌, ◌<◌}
 use native.Mathlib.Nat.{mod-eq_of_lt, lt_of_lt_of_le}
 use native.Mathlib.Omega.{arith}
 use lib.Pow.{pow_mono}
-use lib.ListN.{get_or}
+use lib.ListN.{length, get_or}
+use lib.Seq.{get_or-drop}
 use Rattle.wire.specs.Each.{Each}
 use Rattle.wire.specs.Numbers.{field}
-use Rattle.wire.specs.Refusal.{first}
-use Rattle.wire.proofs.Refusal.{skip}
 use Rattle.wire.proofs.Each.{get_d_each, each_append}
-use Rattle.bits.specs.Fields.{unpacked, values_from, total}
+use Rattle.bits.specs.Fields.{unpacked, total}
 use Rattle.reading.specs.Reading.{kind_from}
 use Rattle.bits.proofs.Fields.{value_fits}
 use Rattle.bits.proofs.Read.{unpacked_front}
-use Rattle.card.specs.Reading.{other_length, later_rules, form_rules}
 use Rattle.card.specs.declared.fields.Fields.{Fields}
-use Rattle.card.specs.Layout.{field_widths, field_of, fields_in, Form, widths_of, after_fields, spare_of, card_form}
+use Rattle.card.specs.Layout.{field_widths, field_of, fields_in, Form, widths_of, after_fields, spare_of}
 
 pub field_fits : (s : List ℕ) (k : ℕ) → field_of k s < 2 ^ get_or field_widths k 0
 unfolding field_of
@@ -45,13 +42,15 @@ pub field_whole : (s : List ℕ) (k r : ℕ) → r ≡ get_or (unpacked field_wi
 unfolding field_of
 field_whole s k r e = whole field_widths s k r most e
 
--- and so of a form
-pub form_whole : (f : Form) (s : List ℕ) (k r : ℕ) → Each Most (f.own ++ (f.spare ∷ [])) → r ≡ get_or (unpacked (widths_of f) s) k 0 % 2 ^ 64 → r ≡ get_or (unpacked (widths_of f) s) k 0
-form_whole f s k r h e = whole (widths_of f) s k r (each_append Most field_widths (f.own ++ (f.spare ∷ [])) most h) e
+-- and so of a form, whose widths the code has
+pub form_whole : (f : Form) (ws s : List ℕ) (k r : ℕ) → Each Most (f.own ++ (f.spare ∷ [])) → ws ≡ widths_of f → r ≡ get_or (unpacked ws s) k 0 % 2 ^ 64 → r ≡ get_or (unpacked (widths_of f) s) k 0
+form_whole f ws s k r h ew e =
+    whole (widths_of f) s k r (each_append Most field_widths (f.own ++ (f.spare ∷ [])) most h) (e ∙ ap (λ (l : List ℕ). get_or (unpacked l s) k 0 % 2 ^ 64) ew)
 
-pub spare_whole : (s : List ℕ) (r : ℕ) → r ≡ get_or (unpacked (widths_of card_form) s) 10 0 % 2 ^ 64 → r ≡ spare_of card_form s
-unfolding after_fields values_from
-spare_whole s r e = form_whole card_form s 10 r (omega arith, tt) e
+pub form_spare : (f : Form) (s : List ℕ) (k r : ℕ) → k ≡ 10 + length f.own → r ≡ get_or (unpacked (widths_of f) s) k 0 → r ≡ spare_of f s
+unfolding after_fields
+form_spare f s k r ek e =
+    e ∙ ap (λ (n : ℕ). get_or (unpacked (widths_of f) s) n 0) ek ∙ sym (get_or-drop 10 (unpacked (widths_of f) s) (length f.own) 0)
 
 -- ---- the ten fields lie in the first 17 bytes
 
@@ -74,9 +73,3 @@ fields_front s = ap fields_from (unpacked_front field_widths s 17 (omega arith))
 -- as the readers find them
 pub found_fields : (s card : List ℕ) (f : Fields) → card ≡ field s 0 17 → f ≡ fields_in card → f ≡ fields_in s
 found_fields s card f ec ef = ef ∙ ap fields_in ec ∙ fields_front s
-
--- and judge them, where the length is the form's
-pub form_judged : (g : Form) (s card : List ℕ) (f : Fields) (b : Bool) (r : ℕ) → b ≡ other_length g.size s → b ≡ false → card ≡ field s 0 17 → f ≡ fields_in card
-    → r ≡ first (later_rules g s f) → r ≡ first (form_rules g s)
-form_judged g s card f b r eb good ec ef er =
-    skip b (other_length g.size s) 50 _ r eb good (er ∙ ap (λ (x : Fields). first (later_rules g s x)) (found_fields s card f ec ef))

@@ -1,6 +1,7 @@
 -- The reading card. Every form of it begins with the same ten fields; after them come the form's own, if it has any, and spare bits.
 -- Assumes nothing.
-use Rattle.std.specs.Prelude.{ℕ, ◌+◌, ◌-◌, ◌*◌, ◌≡◌, List, [], ◌∷◌, ◌++◌, T, length, get_or, take, drop}
+use Rattle.std.specs.Prelude.{ℕ, ◌+◌, ◌-◌, ◌*◌, ◌≡◌, ◌≤◌, List, [], ◌∷◌, ◌++◌, T, length, get_or, take, drop}
+use Rattle.wire.specs.Each.{Each}
 use Rattle.wire.specs.Refusal.{Rule, NoneHolds, numbered}
 use Rattle.bits.specs.Fields.{packed, unpacked, total, Fit}
 use Rattle.date.specs.Date.{date_bytes}
@@ -81,6 +82,15 @@ pub record Lawful (f : Form) : Type 0 where
   pub filled : total (widths_of f) ≡ 8 * f.size
   pub numbers : (own : List ℕ) → T (numbered (f.rules own))
   pub fits : (own : List ℕ) → length own ≡ length f.own → NoneHolds (f.rules own) → Fit f.own own
+
+-- what the code has of a form: how many bytes, which are 16 and at most 8 more, and the place of the spare bits among the fields. No field has
+-- more than 64 bits
+pub record Laid (f : Form) (size spare : ℕ) : Type 0 where
+  pub bytes : size ≡ f.size
+  pub place : spare ≡ 10 + length f.own
+  pub least : 16 ≤ f.size
+  pub most : f.size ≤ 24
+  pub narrow : Each (λ w. w ≤ 64) (f.own ++ (f.spare ∷ []))
 
 -- ---- the card of "17 bytes, most significant bit first": no field of its own, and "spare 5"
 abbrev pub card_form : Form

@@ -1,5 +1,6 @@
 // What every form of the card shares: its ten fields, read, judged and written. A form's length and its own fields are its room's.
 ghost use Rattle.std.specs.Prelude.{◌≡◌, [], ◌∷◌, ◌++◌, ◌<◌, get_or};
+ghost use Rattle.wire.specs.Answer.{judged};
 ghost use Rattle.wire.specs.Numbers.{field};
 ghost use Rattle.wire.specs.Refusal.{first};
 ghost use Rattle.card.specs.Layout.{field_widths, fields, field_of, address_of, channel_number, time_of, value_kind, value_bits, fields_in, card_from};
@@ -9,11 +10,12 @@ ghost use Rattle.card.specs.Writing.{bad_channel, card_rules, too_small};
 use crate::Card;
 use date::DateTime;
 use reading::Kind;
+use wire::Refusal;
 
-const FIELDS: [u8; 10] = [27, 5, 7, 4, 5, 5, 6, 6, 2, 64];
+static FIELDS: [u8; 10] = [27, 5, 7, 4, 5, 5, 6, 6, 2, 64];
 
 // The ten fields as they stand on a card: the channel by its number, the value by its kind and bits.
-#[derive(Clone, Copy)]
+#[derive(Clone, Copy, Debug, PartialEq, Eq)]
 pub struct Fields {
     pub address: u32,
     pub channel: u8,
@@ -23,14 +25,15 @@ pub struct Fields {
 }
 
 // The field with k fields before it.
+#[inline(always)]
 fn field(bytes: &[u8], k: u8) -> u64
     ensures { result ≡ field_of k bytes.now }
 {
-    let widths = FIELDS;
-    bits::field_at(bytes, &widths, k)
+    bits::field_at(bytes, &FIELDS, k)
 }
 
 // One of at most eight bits.
+#[inline(always)]
 fn byte_field(bytes: &[u8], k: u8) -> u8
     requires { get_or field_widths k 0 < 9 }
     ensures { result ≡ field_of k bytes.now }
@@ -123,22 +126,22 @@ pub fn other_length(bytes: &[u8], size: usize) -> bool
     bytes.len() != size
 }
 
-// The number of the first rule that the ten fields are refused by, 0 where none is.
-pub fn judge_fields(f: Fields) -> u8
-    ensures { result ≡ first (field_rules f) }
+// The first rule that the ten fields are refused by.
+pub fn judge_fields(f: Fields) -> Result<(), Refusal>
+    ensures { result ≡ judged tt (first (field_rules f)) }
 {
     let time = f.time;
     let kind = f.kind;
     if bad_address(f.address) {
-        return 52;
+        return Err(Refusal::BadCardAddress);
     }
     if bad_time(time) {
-        return 53;
+        return Err(Refusal::BadTime);
     }
     if upper_half_set(kind, f.bits) {
-        return 54;
+        return Err(Refusal::UpperHalfSet);
     }
-    0
+    Ok(())
 }
 
 pub fn card_from(f: Fields) -> Card
@@ -161,21 +164,21 @@ fn bad_channel(channel: u8) -> bool
     (channel == 0) | (32 < channel)
 }
 
-// The number of the first rule that a card to be written is refused by, 0 where none is.
-pub fn judge_card(card: Card) -> u8
-    ensures { result ≡ first (card_rules card) }
+// The first rule that a card to be written is refused by.
+pub fn judge_card(card: Card) -> Result<(), Refusal>
+    ensures { result ≡ judged tt (first (card_rules card)) }
 {
     let time = card.time;
     if bad_address(card.address) {
-        return 52;
+        return Err(Refusal::BadCardAddress);
     }
     if bad_time(time) {
-        return 53;
+        return Err(Refusal::BadTime);
     }
     if bad_channel(card.channel) {
-        return 55;
+        return Err(Refusal::BadChannel);
     }
-    0
+    Ok(())
 }
 
 // 16, of a form of so many bytes.
@@ -200,7 +203,7 @@ pub fn field_values(card: Card, next: u64) -> [u64; 11]
         time.hour as u64,
         time.minute as u64,
         time.second as u64,
-        reading::number_of(reading::kind_of(value)) as u64,
+        u8::from(reading::kind_of(value)) as u64,
         reading::bits(value),
         next,
     ]

@@ -2,23 +2,25 @@
 #![tactic(auto)]
 
 pub mod fields;
+pub mod forms;
 
 ghost use Rattle.std.specs.Prelude.{◌≡◌};
-ghost use Rattle.std.proofs.lemmas.List.Edits.{sets};
+ghost use Rattle.card.specs.Laid.{card_laid};
+ghost use Rattle.wire.specs.Answer.{judged};
 ghost use Rattle.wire.specs.Refusal.{first};
 ghost use Rattle.wire.specs.Writes.{Writes};
 ghost use Rattle.card.specs.Layout.{card_form, card_bytes};
-ghost use Rattle.card.specs.Reading.{spare_set, later_rules, read_rules, read_card};
+ghost use Rattle.card.specs.Reading.{read_rules, read_card};
 ghost use Rattle.card.specs.Writing.{write_rules};
 
 use date::DateTime;
-use fields::Fields;
+use forms::CardForm;
 use reading::Reading;
-use wire::Written;
+use wire::{Refusal, Written};
 
-const WIDTHS: [u8; 11] = [27, 5, 7, 4, 5, 5, 6, 6, 2, 64, 5];
+static WIDTHS: [u8; 11] = [27, 5, 7, 4, 5, 5, 6, 6, 2, 64, 5];
 
-#[derive(Clone, Copy)]
+#[derive(Clone, Copy, Debug, PartialEq, Eq)]
 pub struct Card {
     pub address: u32,
     pub channel: u8,
@@ -26,79 +28,43 @@ pub struct Card {
     pub value: Reading,
 }
 
-#[derive(Clone, Copy)]
-pub enum CardRead {
-    Card(Card),
-    Refused(u8),
-}
+impl CardForm for Card {
+    const SIZE: usize = 17;
 
-fn spare_set(bytes: &[u8]) -> bool
-    ensures { result ≡ spare_set card_form bytes.now }
-{
-    let widths = WIDTHS;
-    bits::field_at(bytes, &widths, 10) != 0
-}
+    const SPARE: u8 = 10;
 
-// The number of the first rule after 50 that holds, 0 where none does.
-fn later_fault(bytes: &[u8], f: Fields) -> u8
-    ensures { result ≡ first (later_rules card_form bytes.now f) }
-{
-    if spare_set(bytes) {
-        return 51;
+    ghost SIZE = { 17 };
+
+    ghost SPARE = { 10 };
+
+    ghost form = { card_form };
+
+    fn widths() -> &'static [u8] {
+        &WIDTHS
     }
-    fields::judge_fields(f)
+
+    ghost laid = { card_laid };
 }
 
-pub fn read_card(bytes: &[u8]) -> CardRead
+pub fn read_card(bytes: &[u8]) -> Result<Card, Refusal>
     ensures { result ≡ read_card bytes.now }
 {
-    if fields::other_length(bytes, 17) {
-        return CardRead::Refused(50);
-    }
-    let card = fields::first_bytes(bytes);
-    let f = fields::fields_of(&card);
-    let refusal = later_fault(bytes, f);
-    if refusal != 0 {
-        return CardRead::Refused(refusal);
-    }
-    CardRead::Card(fields::card_from(f))
+    let f = forms::read_fields::<Card>(bytes)?;
+    Ok(fields::card_from(f))
 }
 
-// The number of the first rule that holds, 0 for a card.
-pub fn fault_of(bytes: &[u8]) -> u8
-    ensures { result ≡ first (read_rules bytes.now) }
+// The first rule that holds.
+pub fn fault_of(bytes: &[u8]) -> Result<(), Refusal>
+    ensures { result ≡ judged tt (first (read_rules bytes.now)) }
 {
-    match read_card(bytes) {
-        CardRead::Card(_) => 0,
-        CardRead::Refused(n) => n,
-    }
+    read_card(bytes)?;
+    Ok(())
 }
 
-// Two words and a byte; the spare bits are 0.
-fn put_card(card: Card, out: &mut [u8])
-    ensures { out.new ≡ sets out.old 0 (card_bytes card) }
-{
-    let widths = WIDTHS;
-    let values = fields::field_values(card, 0);
-    bits::put_word(out, 0, bits::word_before(&widths, &values, 64));
-    bits::put_word(out, 8, bits::word_before(&widths, &values, 128));
-    wire::put(
-        out,
-        16,
-        (bits::word_before(&widths, &values, 136) % 256) as u8,
-    );
-}
-
+// The spare bits, which are the field after the ten, are 0.
 pub fn write_card(card: Card, out: &mut [u8]) -> Written
     ensures { Writes (first (write_rules card out.old)) (card_bytes card) out.old result out.new }
 {
-    let refusal = fields::judge_card(card);
-    if refusal != 0 {
-        return Written::Refused(refusal);
-    }
-    if fields::too_small(out, 17) {
-        return Written::Refused(16);
-    }
-    put_card(card, out);
-    Written::Length(17)
+    fields::judge_card(card)?;
+    forms::write_fields::<Card>(card, 0, out)
 }

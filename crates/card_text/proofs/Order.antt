@@ -3,8 +3,7 @@
 use mathlib.Core.List.{List}
 use Prim.Native.Nat.{ℕ}
 use Rattle.wire.specs.Refusal.{first, FirstInOrder}
-use Rattle.wire.specs.Writes.{Writes, told_written}
-use Rattle.wire.specs.declared.Written.{Written}
+use Rattle.wire.specs.Writes.{Written, Writes, told_written}
 use Rattle.wire.proofs.Writes.{written_first}
 use Rattle.card_text.specs.Line.{room_rules}
 

@@ -12,22 +12,24 @@ ghost use Rattle.card_text.specs.Line.{plain_width, header, time_text, card_fiel
 use archive_card::ArchiveCard;
 use card::Card;
 use date::DateTime;
-use wire::Written;
+use wire::{Refusal, Written};
 
 // The forms of the card: of 17 bytes, and of 18, which says the archive.
-#[derive(Clone, Copy)]
+#[derive(Clone, Copy, Debug, PartialEq, Eq)]
 pub enum Form {
     Card,
     ArchiveCard,
 }
 
-// What a line is of.
-#[derive(Clone, Copy)]
-pub enum Entry {
+// A card of either form.
+#[derive(Clone, Copy, Debug, PartialEq, Eq)]
+pub enum AnyCard {
     Card(Card),
     ArchiveCard(ArchiveCard),
-    Refused(u8),
 }
+
+// What a line is of: a card, or the number that it is refused with. Every number has a line, as `put_line` promises, and not a Refusal's alone.
+pub type Entry = Result<AnyCard, u8>;
 
 // v with w digits in a base.
 fn put_number(out: &mut [u8], at: usize, base: u64, w: usize, v: u64)
@@ -35,15 +37,14 @@ fn put_number(out: &mut [u8], at: usize, base: u64, w: usize, v: u64)
     ensures { out.new ≡ sets out.old at (numeral base w v) }
 {
     let mut left = v;
-    let mut i = w;
-    while 0 < i {
-        i -= 1;
+    for i in (0..w).rev() {
         wire::put(out, at + i, wire::digit(left % base));
         left /= base;
     }
 }
 
-// And what ends it; the answer is the place after that.
+// And what ends it; the answer is the place after that, where the next begins. A struct that kept the lent bytes with the place would need in each
+// contract that they stay the same ones.
 fn put_field(out: &mut [u8], at: usize, base: u64, w: usize, v: u64, end: u8) -> usize
     requires { (at < 256) × (0 < base) × (w ≤ 16) }
     ensures { Stored out.old at (numeral base w v ++ (end ∷ [])) out.new result × (result ≤ at + 17) }
@@ -98,7 +99,7 @@ fn put_card(out: &mut [u8; 64], card: Card, end: u8) -> usize
         kind,
         10,
         1,
-        reading::number_of(reading::kind_of(value)) as u64,
+        u8::from(reading::kind_of(value)) as u64,
         b';',
     );
     put_field(out, bits, 16, 16, reading::bits(value), end)
@@ -110,14 +111,7 @@ fn put_archive_card(out: &mut [u8; 64], a: ArchiveCard) -> usize
     let card = a.card;
     let source = a.source;
     let archive = put_card(out, card, b';');
-    put_field(
-        out,
-        archive,
-        10,
-        1,
-        archive::source_number(source) as u64,
-        b'\n',
-    )
+    put_field(out, archive, 10, 1, u8::from(source) as u64, b'\n')
 }
 
 fn put_refused(out: &mut [u8; 64], n: u8) -> usize
@@ -132,9 +126,9 @@ pub fn make_line(out: &mut [u8; 64], entry: Entry) -> usize
     ensures { Stored out.old 0 (line_of «entry») out.new result }
 {
     match entry {
-        Entry::Card(card) => put_card(out, card, b'\n'),
-        Entry::ArchiveCard(a) => put_archive_card(out, a),
-        Entry::Refused(n) => put_refused(out, n),
+        Ok(AnyCard::Card(card)) => put_card(out, card, b'\n'),
+        Ok(AnyCard::ArchiveCard(a)) => put_archive_card(out, a),
+        Err(n) => put_refused(out, n),
     }
 }
 
@@ -143,12 +137,9 @@ pub fn line_length(entry: Entry) -> usize
     ensures { result ≡ length (line_of «entry») }
 {
     match entry {
-        Entry::Card(card) => 49 + plain_width(card.channel),
-        Entry::ArchiveCard(a) => {
-            let card = a.card;
-            51 + plain_width(card.channel)
-        }
-        Entry::Refused(n) => 9 + plain_width(n),
+        Ok(AnyCard::Card(card)) => 49 + plain_width(card.channel),
+        Ok(AnyCard::ArchiveCard(a)) => 51 + plain_width(a.card.channel),
+        Err(n) => 9 + plain_width(n),
     }
 }
 
@@ -162,10 +153,10 @@ fn put_text(text: &[u8], out: &mut [u8]) -> Written
     ensures { Writes (first (room_rules text.now out.old)) text.now out.old result out.new }
 {
     if too_small(text, out) {
-        return Written::Refused(16);
+        return Err(Refusal::NoRoom);
     }
     wire::put_all(out, 0, text);
-    Written::Length(text.len())
+    Ok(text.len())
 }
 
 pub fn put_header(form: Form, out: &mut [u8]) -> Written

@@ -3,82 +3,20 @@
 #![tactic(auto)]
 
 ghost use Rattle.std.specs.Prelude.{◌≡◌, ◌+◌, ◌%◌};
-ghost use Rattle.checksum.specs.Crc.{CRC16, crc_bits, crc_byte, crc_from, crc};
-ghost use Rattle.checksum.specs.Crc32.{CRC32, crc32_from};
+ghost use Rattle.checksum.specs.Crc.{crc_bits, crc_byte, remainder, crc_from, crc};
+ghost use Rattle.checksum.specs.Crc32.{crc32_from};
 ghost use Rattle.checksum.specs.Sums.{sum_from, closing};
 ghost use Rattle.checksum.specs.Table.{fours};
 
+const CRC16: u32 = 0xA001;
+
+const CRC32: u32 = 0xEDB8_8320;
+
 // Four bits of each remainder below 16. It is laid out once for a message and lent: indexed where it stands, it would be laid out at each step.
-const FOUR: [u16; 16] = [
+const FOUR: [u32; 16] = [
     0x0000, 0xCC01, 0xD801, 0x1400, 0xF001, 0x3C00, 0x2800, 0xE401, 0xA001, 0x6C00, 0x7800, 0xB401,
     0x5000, 0x9C01, 0x8801, 0x4400,
 ];
-
-// Four bits of the remainder c: the lowest choose the entry, the others move down.
-fn four_bits(table: &[u16], c: u16) -> u16
-    requires { table.now ≡ fours CRC16 }
-    ensures { result ≡ crc_bits CRC16 4 c }
-{
-    (c / 16) ^ table[(c % 16) as usize]
-}
-
-// One byte more: its low half, then its high half.
-fn add_byte(table: &[u16], c: u16, b: u8) -> u16
-    requires { table.now ≡ fours CRC16 }
-    ensures { result ≡ crc_byte CRC16 c b }
-{
-    four_bits(table, four_bits(table, c ^ b as u16))
-}
-
-// From a start value: a message in several stretches is summed one stretch after the other. An SM160 frame starts from 0000.
-pub fn checksum_from(start: u16, bytes: &[u8]) -> u16
-    ensures { result ≡ crc_from start bytes.now }
-{
-    let table = FOUR;
-    let mut c = start;
-    let mut i = 0;
-    while i < bytes.len() {
-        c = add_byte(&table, c, bytes[i]);
-        i += 1;
-    }
-    c
-}
-
-// From FFFF, the rule of Pulsar-M and Modbus RTU.
-pub fn checksum(bytes: &[u8]) -> u16
-    ensures { result ≡ crc bytes.now }
-{
-    checksum_from(0xFFFF, bytes)
-}
-
-// One byte more of a sum modulo 256.
-pub fn sum_byte(sum: u8, b: u8) -> u8
-    ensures { result ≡ (sum + b) % 256 }
-{
-    ((sum as u16 + b as u16) % 256) as u8
-}
-
-// From a sum: a message in several stretches is summed one stretch after the other.
-pub fn sum_from(sum: u8, bytes: &[u8]) -> u8
-    ensures { result ≡ sum_from sum bytes.now }
-{
-    let mut c = sum;
-    let mut i = 0;
-    while i < bytes.len() {
-        c = sum_byte(c, bytes[i]);
-        i += 1;
-    }
-    c
-}
-
-// The LRC of bytes with this sum.
-pub fn lrc(sum: u8) -> u8
-    ensures { result ≡ closing sum }
-{
-    ((256 - sum as u16) % 256) as u8
-}
-
-// ---- CRC-32, in the same way
 
 const FOUR_OF_32: [u32; 16] = [
     0x0000_0000,
@@ -99,30 +37,86 @@ const FOUR_OF_32: [u32; 16] = [
     0xBDBD_F21C,
 ];
 
-fn four_bits_of_32(table: &[u32], rest: u32) -> u32
-    requires { table.now ≡ fours CRC32 }
-    ensures { result ≡ crc_bits CRC32 4 rest }
-{
-    (rest / 16) ^ table[(rest % 16) as usize]
+// A table of four bits, by the polynomial whose it is.
+#[derive(Clone, Copy)]
+struct Fours<const POLY: u32> {
+    entries: [u32; 16],
+    ghost holds: { entries ≡ fours POLY },
 }
 
-fn add_byte_to_32(table: &[u32], c: u32, b: u8) -> u32
-    requires { table.now ≡ fours CRC32 }
-    ensures { result ≡ crc_byte CRC32 c b }
+impl<const POLY: u32> Fours<POLY> {
+    // Four bits of the remainder c: the lowest choose the entry, the others move down.
+    fn four_bits(&self, c: u32) -> u32
+        ensures { result ≡ crc_bits POLY 4 c }
+    {
+        (c / 16) ^ self.entries[(c % 16) as usize]
+    }
+
+    // One byte more: its low half, then its high half.
+    fn add_byte(&self, c: u32, b: u8) -> u32
+        ensures { result ≡ crc_byte POLY c b }
+    {
+        self.four_bits(self.four_bits(c ^ b as u32))
+    }
+
+    // The bytes of a message after the remainder that stands at the start.
+    fn remainder(&self, start: u32, bytes: &[u8]) -> u32
+        ensures { result ≡ remainder POLY start bytes.now }
+    {
+        let mut c = start;
+        for b in bytes {
+            c = self.add_byte(c, *b);
+        }
+        c
+    }
+}
+
+// From a start value: a message in several stretches is summed one stretch after the other. An SM160 frame starts from 0000.
+pub fn checksum_from(start: u16, bytes: &[u8]) -> u16
+    ensures { result ≡ crc_from start bytes.now }
 {
-    four_bits_of_32(table, four_bits_of_32(table, c ^ b as u32))
+    let table = Fours::<CRC16> { entries: FOUR };
+    table.remainder(start as u32, bytes) as u16
+}
+
+// From FFFF, the rule of Pulsar-M and Modbus RTU.
+pub fn checksum(bytes: &[u8]) -> u16
+    ensures { result ≡ crc bytes.now }
+{
+    checksum_from(0xFFFF, bytes)
+}
+
+// One byte more of a sum modulo 256.
+pub fn sum_byte(sum: u8, b: u8) -> u8
+    ensures { result ≡ (sum + b) % 256 }
+{
+    sum.wrapping_add(b)
+}
+
+// From a sum: a message in several stretches is summed one stretch after the other.
+pub fn sum_from(sum: u8, bytes: &[u8]) -> u8
+    ensures { result ≡ sum_from sum bytes.now }
+{
+    let mut c = sum;
+    for b in bytes {
+        c = sum_byte(c, *b);
+    }
+    c
+}
+
+// The LRC of bytes with this sum.
+pub fn lrc(sum: u8) -> u8
+    ensures { result ≡ closing sum }
+{
+    sum.wrapping_neg()
 }
 
 // The CRC-32 of bytes that go on from a message whose CRC-32 is crc: 0 to begin with, and so over one stretch after the other.
 pub fn crc32_from(crc: u32, bytes: &[u8]) -> u32
     ensures { result ≡ crc32_from crc bytes.now }
 {
-    let table = FOUR_OF_32;
-    let mut c = crc ^ 0xFFFF_FFFF;
-    let mut i = 0;
-    while i < bytes.len() {
-        c = add_byte_to_32(&table, c, bytes[i]);
-        i += 1;
-    }
-    c ^ 0xFFFF_FFFF
+    let table = Fours::<CRC32> {
+        entries: FOUR_OF_32,
+    };
+    table.remainder(crc ^ 0xFFFF_FFFF, bytes) ^ 0xFFFF_FFFF
 }

@@ -2,6 +2,7 @@
 -- Assumes nothing.
 use mathlib.Core.Path.{◌≡◌, refl}
 use mathlib.Core.List.{[], ◌∷◌}
+use Rattle.wire.specs.Numbered.{refusal}
 use Rattle.wire.specs.Refusal.{pick}
 use Rattle.wire.specs.Told.{AllHold, ◌gives◌, accepted, refused}
 use Rattle.date.specs.Date.{is_date, no_date}
@@ -21,9 +22,9 @@ pub ends :
     ∷ told_difference (clock_difference last_second last_second) gives accepted (0 ∷ 0 ∷ [])
     ∷ told_difference (clock_difference first_second no_date) gives refused 53
     ∷ [])
-unfolding days_of_months days_of_years is_date pick
+unfolding days_of_months days_of_years is_date pick refusal
 ends = (refl, (refl, (refl, (refl, (refl, tt)))))
 
 pub no_clock_lem : (cabinet : DateTime) → told_difference (clock_difference no_date cabinet) ≡ refused 13
-unfolding is_date pick
+unfolding is_date pick refusal
 no_clock_lem cabinet = refl

@@ -1,25 +1,22 @@
 -- The laws of a difference that is answered.
 -- Assumes nothing.
-use mathlib.Core.Path.{◌≡◌, refl, sym, ap, ap₂, ◌∙◌, subst}
+use mathlib.Core.Path.{◌≡◌, refl, sym, ap, ◌∙◌, subst}
 use mathlib.Core.Bool.{Bool, true, false, not, cond}
-use mathlib.Core.List.{[], ◌∷◌}
 use Prim.Native.Nat.{ℕ, zero, suc, ◌+◌, ◌-◌, ◌^◌, ◌≤◌, ◌<◌}
 use native.Mathlib.Omega.{arith}
 use lib.Dec.{ltb}
 use lib.IntN.{ℤ, pos, negsuc, neg_ℤ, nat_abs, ◌+ℤ◌, ◌-ℤ◌, neg_ℤ-+ℤ, neg_ℤ-neg_ℤ, +ℤ_comm, +ℤ_invr, -ℤ-+ℤ_cancel}
 use lib.Signed.{mag, non_neg}
 use borrow.Author.Tests.{ltb-true, ltb-false, lt-ltb, le-ltb, not-false}
-use Rattle.wire.specs.Answer.{answered}
-use Rattle.wire.specs.Refusal.{◌when◌, pick, first}
-use Rattle.wire.proofs.Answer.{answered_none, accepted_as}
-use Rattle.wire.proofs.Refusal.{first_none, none_first}
+use Rattle.wire.specs.Refusal.{first}
+use Rattle.wire.proofs.Answer.{judged_none, accepted_as}
+use Rattle.wire.proofs.Rules.{first_none, none_first}
 use Rattle.date.specs.Date.{is_date}
 use Rattle.date.specs.declared.DateTime.{DateTime}
 use Rattle.clock.specs.Seconds.{seconds_since2000}
-use Rattle.clock.specs.Clock.{bad_cabinet, clock_rules, seconds_apart, clock_difference, told_difference}
+use Rattle.clock.specs.Clock.{clock_rules, seconds_apart, clock_difference}
 use Rattle.clock.specs.Laws.{TrueDifference}
-use Rattle.clock.specs.declared.Difference.{Difference}
-use Rattle.clock.specs.declared.Difference.TheVariants.{Seconds, Refused}
+use Rattle.std.specs.Prelude.{Ok}
 use Rattle.clock.proofs.Rising.{rising, seconds_most, one_date}
 
 -- x less y, where y is more and where it is not
@@ -57,40 +54,32 @@ nothing_apart x y e =
     let back : 0 + y ≡ x = ap nat_abs (ap (λ (z : ℤ). z +ℤ pos y) (sym e) ∙ -ℤ-+ℤ_cancel (pos x) (pos y)) in
     omega arith
 
-seconds_in : Difference → ℤ
-seconds_in (Seconds z) = z
-seconds_in (Refused n) = pos 0
-
 module _ (meter cabinet : DateTime) where
+  -- where no rule holds, both are dates
+  pub both_good : first (clock_rules meter cabinet) ≡ 0 → (is_date meter ≡ true) × (is_date cabinet ≡ true)
+  both_good z =
+      let none = none_first (clock_rules meter cabinet) tt z in
+      (not-false (is_date meter) none.0, not-false (is_date cabinet) none.1.0)
+
   -- what an answer in seconds says
-  both_dates : (z : ℤ) → clock_difference meter cabinet ≡ Seconds z → (is_date meter ≡ true) × (is_date cabinet ≡ true) × (seconds_apart meter cabinet ≡ z)
-  unfolding seconds_in
+  both_dates : (z : ℤ) → clock_difference meter cabinet ≡ Ok z → (is_date meter ≡ true) × (is_date cabinet ≡ true) × (seconds_apart meter cabinet ≡ z)
   both_dates z e =
-      let said = accepted_as Refused (Seconds (seconds_apart meter cabinet)) (λ d. (told_difference d).number) (λ n. refl) _ (Seconds z) e refl in
-      let none = none_first (clock_rules meter cabinet) tt said.0 in
-      (not-false (is_date meter) none.0, not-false (is_date cabinet) none.1.0, ap seconds_in said.1)
+      let said = accepted_as (seconds_apart meter cabinet) _ z e in
+      let good = both_good said.0 in
+      (good.0, good.1, said.1)
 
-  -- the three answers
-  pub meter_refused : is_date meter ≡ false → clock_difference meter cabinet ≡ Refused 13
-  unfolding pick
-  meter_refused m = ap (λ (b : Bool). answered Refused (Seconds (seconds_apart meter cabinet)) (pick (not b) 13 (first (53 when bad_cabinet cabinet ∷ [])))) m
+  -- the answer for two dates
+  pub answered_seconds : is_date meter ≡ true → is_date cabinet ≡ true → clock_difference meter cabinet ≡ Ok (seconds_apart meter cabinet)
+  answered_seconds m c = judged_none (seconds_apart meter cabinet) _ (first_none (clock_rules meter cabinet) (ap not m, (ap not c, tt)))
 
-  pub cabinet_refused : is_date meter ≡ true → is_date cabinet ≡ false → clock_difference meter cabinet ≡ Refused 53
-  unfolding pick
-  cabinet_refused m c =
-      ap₂ (λ (a b : Bool). answered Refused (Seconds (seconds_apart meter cabinet)) (pick (not a) 13 (pick (not b) 53 0))) m c
-
-  pub answered_seconds : is_date meter ≡ true → is_date cabinet ≡ true → clock_difference meter cabinet ≡ Seconds (seconds_apart meter cabinet)
-  answered_seconds m c = answered_none Refused (Seconds (seconds_apart meter cabinet)) _ (first_none (clock_rules meter cabinet) (ap not m, (ap not c, tt)))
-
-pub true_difference : (meter cabinet : DateTime) (z : ℤ) → clock_difference meter cabinet ≡ Seconds z → TrueDifference meter cabinet z
+pub true_difference : (meter cabinet : DateTime) (z : ℤ) → clock_difference meter cabinet ≡ Ok z → TrueDifference meter cabinet z
 true_difference meter cabinet z e =
     let said = both_dates meter cabinet z e in
     let x = seconds_since2000 meter in
     let y = seconds_since2000 cabinet in
     subst (TrueDifference meter cabinet) said.2
     (record {
-      swapped = answered_seconds cabinet meter said.1 said.0 ∙ ap Seconds (negated (pos x) (pos y));
+      swapped = answered_seconds cabinet meter said.1 said.0 ∙ ap Ok (negated (pos x) (pos y));
       added_back = -ℤ-+ℤ_cancel (pos x) (pos y);
       largest = size x y 3155759999 (seconds_most meter said.0) (seconds_most cabinet said.1);
       same = (

@@ -5,8 +5,9 @@ use Rattle.wire.specs.Refusal.{FirstInOrder}
 use Rattle.wire.proofs.Answer.{answer_first}
 use Rattle.date.specs.declared.DateTime.{DateTime}
 use Rattle.clock.specs.Clock.{clock_rules, seconds_apart, clock_difference, told_difference}
-use Rattle.clock.specs.declared.Difference.TheVariants.{Seconds, Refused}
+use Rattle.wire.specs.Answer.{refuse}
+use Rattle.std.specs.Prelude.{Ok}
 
 pub clock_difference_first : (meter cabinet : DateTime) → FirstInOrder (clock_rules meter cabinet) (told_difference (clock_difference meter cabinet)).number
 clock_difference_first meter cabinet =
-    answer_first Refused (Seconds (seconds_apart meter cabinet)) (λ d. (told_difference d).number) (λ n. refl) (clock_rules meter cabinet) tt refl
+    answer_first refuse (Ok (seconds_apart meter cabinet)) (λ d. (told_difference d).number) (λ n. refl) (clock_rules meter cabinet) tt refl

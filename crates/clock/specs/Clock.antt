@@ -1,15 +1,15 @@
 -- How far off the meter's clock is.
 -- Assumes nothing.
-use Rattle.std.specs.Prelude.{Bool, cond, not, List, [], ◌∷◌, ℤ, pos, ◌-ℤ◌, nat_abs}
+use Rattle.std.specs.Prelude.{Bool, cond, not, List, [], ◌∷◌, ℤ, pos, ◌-ℤ◌, nat_abs, Result, Ok, Err}
 use Rattle.std.specs.Int.Signed.{non_neg}
 use Rattle.wire.specs.Refusal.{Rule, ◌when◌, first}
-use Rattle.wire.specs.Answer.{answered}
+use Rattle.wire.specs.Answer.{judged}
 use Rattle.wire.specs.Told.{Told, accepted, refused}
 use Rattle.date.specs.Date.{is_date}
 use Rattle.date.specs.declared.DateTime.{DateTime}
 use Rattle.clock.specs.Seconds.{seconds_since2000}
-use Rattle.clock.specs.declared.Difference.{Difference}
-use Rattle.clock.specs.declared.Difference.TheVariants.{Seconds, Refused}
+use Rattle.wire.specs.Numbered.{number_of}
+use Rattle.wire.specs.declared.refusals.Refusal.{Refusal}
 
 -- 13 "for the meter's date, no date included"
 abbrev pub bad_meter : DateTime → Bool
@@ -27,10 +27,10 @@ clock_rules meter cabinet = 13 when bad_meter meter ∷ 53 when bad_cabinet cabi
 abbrev pub seconds_apart : DateTime → DateTime → ℤ
 seconds_apart meter cabinet = pos (seconds_since2000 meter) -ℤ pos (seconds_since2000 cabinet)
 
-abbrev pub clock_difference : DateTime → DateTime → Difference
-clock_difference meter cabinet = answered Refused (Seconds (seconds_apart meter cabinet)) (first (clock_rules meter cabinet))
+abbrev pub clock_difference : DateTime → DateTime → Result ℤ Refusal
+clock_difference meter cabinet = judged (seconds_apart meter cabinet) (first (clock_rules meter cabinet))
 
 -- its sign, 1 for negative, and its size
-abbrev pub told_difference : Difference → Told
-told_difference (Seconds z) = accepted (cond (non_neg z) 0 1 ∷ nat_abs z ∷ [])
-told_difference (Refused n) = refused n
+abbrev pub told_difference : Result ℤ Refusal → Told
+told_difference (Ok z) = accepted (cond (non_neg z) 0 1 ∷ nat_abs z ∷ [])
+told_difference (Err e) = refused (number_of e)

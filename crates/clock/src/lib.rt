@@ -4,17 +4,12 @@
 ghost use Rattle.std.specs.Prelude.{◌+◌, ◌-◌, ◌*◌, ◌≤◌, true, ◌≡◌};
 ghost use Rattle.date.specs.Date.{is_date};
 ghost use Rattle.clock.specs.Seconds.{days_of_months, days_of_years, seconds_since2000};
-ghost use Rattle.clock.specs.Clock.{bad_meter, bad_cabinet, clock_difference};
+ghost use Rattle.wire.specs.Answer.{judged};
+ghost use Rattle.wire.specs.Refusal.{first};
+ghost use Rattle.clock.specs.Clock.{bad_meter, bad_cabinet, clock_rules, clock_difference};
 
 use date::{DateTime, is_date};
-
-#[derive(Clone, Copy)]
-pub enum Difference {
-    // The meter's date less the cabinet's: negative when the meter is slow.
-    Seconds(i64),
-    // The paper's number.
-    Refused(u8),
-}
+use wire::Refusal;
 
 // The days of the months before this one, in a year that is not leap, as 2001.
 fn common_days(month: u8) -> u16
@@ -74,17 +69,24 @@ fn bad_cabinet(cabinet: DateTime) -> bool
     !is_date(cabinet)
 }
 
-pub fn clock_difference(meter: DateTime, cabinet: DateTime) -> Difference
-    ensures { result ≡ clock_difference meter cabinet }
+fn judge(meter: DateTime, cabinet: DateTime) -> Result<(), Refusal>
+    ensures { result ≡ judged tt (first (clock_rules meter cabinet)) }
 {
     if bad_meter(meter) {
-        return Difference::Refused(13);
+        return Err(Refusal::BadDate);
     }
     if bad_cabinet(cabinet) {
-        return Difference::Refused(53);
+        return Err(Refusal::BadTime);
     }
+    Ok(())
+}
+
+// The meter's date less the cabinet's, in seconds: negative when the meter is slow.
+pub fn clock_difference(meter: DateTime, cabinet: DateTime) -> Result<i64, Refusal>
+    ensures { result ≡ clock_difference meter cabinet }
+{
+    judge(meter, cabinet)?;
     let at_meter = seconds_since_2000(meter) as i64;
     let at_cabinet = seconds_since_2000(cabinet) as i64;
-    let seconds = at_meter - at_cabinet;
-    Difference::Seconds(seconds)
+    Ok(at_meter - at_cabinet)
 }

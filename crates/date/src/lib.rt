@@ -7,7 +7,7 @@ ghost use Rattle.wire.specs.Numbers.{field};
 ghost use Rattle.date.specs.Months.{february, days_of};
 ghost use Rattle.date.specs.Date.{date_bytes, date_of, is_date, is_no_date, within};
 
-#[derive(Clone, Copy)]
+#[derive(Clone, Copy, Debug, PartialEq, Eq)]
 pub struct DateTime {
     // From 2000.
     pub year: u8,
@@ -79,13 +79,17 @@ pub fn is_date(d: DateTime) -> bool
 }
 
 // Six bytes FF, which a clock reply alone may bear.
+const NO_DATE: DateTime = DateTime {
+    year: 255,
+    month: 255,
+    day: 255,
+    hour: 255,
+    minute: 255,
+    second: 255,
+};
+
 pub fn is_no_date(d: DateTime) -> bool
     ensures { result ≡ is_no_date d }
 {
-    (d.year == 255)
-        & (d.month == 255)
-        & (d.day == 255)
-        & (d.hour == 255)
-        & (d.minute == 255)
-        & (d.second == 255)
+    d == NO_DATE
 }

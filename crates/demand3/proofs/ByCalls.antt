@@ -10,8 +10,8 @@ use Rattle.sm160_frame.specs.Reading.{LARGEST, bad_largest}
 use Rattle.sm160_frame.proofs.Limit.{from_largest}
 use Rattle.sm160_receiver.specs.Receiving.{opened, opening, step, Took}
 use Rattle.sm160_receiver.specs.declared.Receiver.{Receiver}
-use Rattle.sm160_receiver.specs.declared.Opening.TheVariants.{Ready}
-use Rattle.sm160_receiver.specs.declared.Answer.TheVariants.{Complete}
+use Rattle.sm160_receiver.specs.declared.Progress.TheVariants.{Complete}
+use Rattle.std.specs.Prelude.{Ok}
 use Rattle.demand3.specs.Feeding.{Side, side, Exchange, exchange, frames_of, EndsWith, Fed, ByStep, Steps}
 use Rattle.demand3.specs.Calls.{ByOpen, of_open, ByCall, of_receive, of_receive_lent, of_receive_plain, Calls}
 use Rattle.demand3.specs.Arrival.{Item, all, Arrives, Delivered}
@@ -33,7 +33,7 @@ unfolding Fed
 by_steps σ [] τ e = e
 by_steps σ (x ∷ xs) τ e = (e.0, by_step σ x e.0 e.1, by_steps e.0 xs τ e.2)
 
-opens : (session limit : ℕ) (s : Receiver) → ByOpen session limit s → opening session limit ≡ Ready s
+opens : (session limit : ℕ) (s : Receiver) → ByOpen session limit s → opening session limit ≡ Ok s
 opens _ _ _ (of_open κs a s e met) = sym met
 
 pub opening_limit : (session limit : ℕ) (s : Receiver) → ByOpen session limit s → bad_largest limit ≡ false
@@ -61,7 +61,7 @@ delivered_by_calls session limit b before σ file is τ c a e =
 -- And whenever completion is reported, at n, to the last of the frames xs so far: the first n bytes of the buffer are a well-formed datagram, and the joined parts of
 -- the frames accepted from the last accepted START on, without gap or repeat.
 pub completed_by_calls : (session limit : ℕ) (b : List ℕ) (xs : List Exchange) (τ : Side) (n : ℕ)
-    → Calls session limit b xs τ → EndsWith (Complete n) xs → HoldsFile session limit n τ.buffer (since_start (accepted_frames xs))
+    → Calls session limit b xs τ → EndsWith (Ok (Complete n)) xs → HoldsFile session limit n τ.buffer (since_start (accepted_frames xs))
 completed_by_calls session limit b xs τ n c w = completed session limit b xs τ n (steps session limit b xs τ c) w
 
 -- ---- one file, cut in two ways
@@ -69,7 +69,7 @@ completed_by_calls session limit b xs τ n c w = completed session limit b xs τ
 -- A receiver is at σ, whatever came before, and calls with frames lead to τ: first an accepted START, and all that are accepted are of one
 -- file. Where the last is answered with completion at n, it reports that file, whole.
 pub one_file_by_calls : (file : List ℕ) (σ : Side) (xs : List Exchange) (τ : Side) (n : ℕ)
-    → Fed ByCall σ xs τ → OfOneFile file xs → EndsWith (Complete n) xs → Reports file n σ.buffer τ.buffer
+    → Fed ByCall σ xs τ → OfOneFile file xs → EndsWith (Ok (Complete n)) xs → Reports file n σ.buffer τ.buffer
 one_file_by_calls file σ xs τ n e h w = one_file file σ xs τ n (by_steps σ xs τ e) h w
 
 -- ---- the limit is kept

@@ -14,7 +14,8 @@ use Rattle.sm160_frame.specs.Carried.{Carries, none, InTurn, joined}
 use Rattle.sm160_datagram.specs.Reading.{datagram_fault}
 use Rattle.sm160_receiver.specs.Receiving.{reached, file_with, state_after}
 use Rattle.sm160_receiver.specs.declared.Receiver.{Receiver}
-use Rattle.sm160_receiver.specs.declared.Answer.TheVariants.{Complete}
+use Rattle.std.specs.Prelude.{Ok}
+use Rattle.sm160_receiver.specs.declared.Progress.TheVariants.{Complete}
 use Rattle.demand3.specs.Feeding.{Side, side, Exchange, exchange, EndsWith, Fed, ByStep, Steps}
 use Rattle.demand3.specs.Completion.{is_refused, accepted_frames, keep_from, since_start, HoldsFile}
 use Rattle.demand3.proofs.Taking.{take_sets, reply_complete, Taken, either_way, taken_not, FitFor, opened_as, fit_opened, fit_next}
@@ -51,7 +52,7 @@ keep_next false kept f fs = refl
 
 -- a frame that completes
 abbrev pub completing : List ℕ → ℕ → List Exchange
-completing f n = exchange f (Complete n) ∷ []
+completing f n = exchange f (Ok (Complete n)) ∷ []
 
 -- ---- at a receiver of a session and a limit
 module _ (session limit : ℕ) where
@@ -200,7 +201,7 @@ module _ (session limit : ℕ) where
 -- A receiver is opened, lent b and fed any frames. Where the last is answered with completion at n: the first n bytes of the buffer are a
 -- well-formed datagram, and the joined parts of the frames accepted from the last accepted START on, without gap or repeat.
 pub completed : (session limit : ℕ) (b : List ℕ) (xs : List Exchange) (τ : Side) (n : ℕ)
-    → Steps session limit b xs τ → EndsWith (Complete n) xs → HoldsFile session limit n τ.buffer (since_start (accepted_frames xs))
+    → Steps session limit b xs τ → EndsWith (Ok (Complete n)) xs → HoldsFile session limit n τ.buffer (since_start (accepted_frames xs))
 completed session limit b xs τ n s w =
     let σ = side s.0 b in
     let idle : s.0.under_way ≡ false = ap (λ (r : Receiver). r.under_way) (opened_as session limit s.0 s.1).0 in

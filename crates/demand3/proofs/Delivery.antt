@@ -17,7 +17,8 @@ use Rattle.sm160_datagram.specs.Reading.{datagram_fault}
 use Rattle.sm160_datagram.proofs.Bytes.{datagram_length}
 use Rattle.sm160_receiver.specs.Receiving.{opened, holding, reached, reply, state_after}
 use Rattle.sm160_receiver.specs.declared.Receiver.{Receiver}
-use Rattle.sm160_receiver.specs.declared.Answer.TheVariants.{Held, Complete}
+use Rattle.std.specs.Prelude.{Ok}
+use Rattle.sm160_receiver.specs.declared.Progress.TheVariants.{Held, Complete}
 use Rattle.demand3.specs.Feeding.{Side, side, Exchange, exchange, frames_of, EndsWith, Fed, ByStep, Steps}
 use Rattle.demand3.specs.Arrival.{Item, file_frame, other_frame, all, own, Arrives, counts, Delivered, file_frames}
 use Rattle.demand3.proofs.Taking.{take_sets, takes, unchanged, FitFor, fit_opened, fit_next, fit_fed}
@@ -85,8 +86,8 @@ module _ (session limit m : ℕ) where
       → Fed ByStep σ (all is) τ → Given place σ is τ
   unfolding all own counts InTurn joined Fed
   arrival place start σ [] τ i h g k v e = record { counted = refl; stored = ap (λ (ρ : Side). ρ.buffer) e }
-  arrival place start σ (other_frame f n ∷ is) τ i h g k v e =
-      let rest = subst (λ (ρ : Side). Fed ByStep ρ (all is) τ) (unchanged σ _ e.0 n e.1 refl) e.2 in
+  arrival place start σ (other_frame f why ∷ is) τ i h g k v e =
+      let rest = subst (λ (ρ : Side). Fed ByStep ρ (all is) τ) (unchanged σ _ e.0 why e.1 refl) e.2 in
       let more = arrival place start σ is τ i h g k v rest in
       record { counted = more.counted; stored = more.stored }
   arrival place start σ (file_frame x ∷ is) τ i h g k v e =
@@ -135,25 +136,25 @@ alone_counted session limit file b alone ρ c fits v s =
     (subst (λ (l : List Exchange). Fed ByStep (side s.0 b) l ρ) (sym (all_file alone)) s.2)).counted
 
 -- ---- the last answer
-counts_end : (place : ℕ) (f : List ℕ) (fs : List (List ℕ)) → EndsWith (Complete (place + length (joined (f ∷ fs)))) (counts place (f ∷ fs))
+counts_end : (place : ℕ) (f : List ℕ) (fs : List (List ℕ)) → EndsWith (Ok (Complete (place + length (joined (f ∷ fs))))) (counts place (f ∷ fs))
 unfolding counts joined
 counts_end place f [] =
-    ([], f, ap (λ (k : ℕ). exchange f (Complete (place + k)) ∷ []) (sym (length-append (part_of f) [] ∙ add-zero (length (part_of f)))))
+    ([], f, ap (λ (k : ℕ). exchange f (Ok (Complete (place + k))) ∷ []) (sym (length-append (part_of f) [] ∙ add-zero (length (part_of f)))))
 counts_end place f (g ∷ fs) =
     let p = part_of f in
-    let first : Exchange = exchange f (Held (place + length p)) in
+    let first : Exchange = exchange f (Ok (Held (place + length p))) in
     let more = counts_end (place + length p) g fs in
     let n : place + length p + length (joined (g ∷ fs)) ≡ place + length (p ++ joined (g ∷ fs)) =
     add_assoc place (length p) (length (joined (g ∷ fs))) ∙ ap (λ (k : ℕ). place + k) (sym (length-append p (joined (g ∷ fs)))) in (
       first ∷ more.0,
       more.1,
-      ap (λ (l : List Exchange). first ∷ l) (more.2 ∙ ap (λ (k : ℕ). more.0 ++ (exchange more.1 (Complete k) ∷ [])) n),
+      ap (λ (l : List Exchange). first ∷ l) (more.2 ∙ ap (λ (k : ℕ). more.0 ++ (exchange more.1 (Ok (Complete k)) ∷ [])) n),
     )
 
-last_count : (fs : List (List ℕ)) (file : List ℕ) → joined fs ≡ file → 1 ≤ length file → EndsWith (Complete (length file)) (counts 0 fs)
+last_count : (fs : List (List ℕ)) (file : List ℕ) → joined fs ≡ file → 1 ≤ length file → EndsWith (Ok (Complete (length file))) (counts 0 fs)
 unfolding joined
 last_count [] file e h = absurd (omega (arith, ap length e))
-last_count (f ∷ fs) file e h = subst (λ (k : ℕ). EndsWith (Complete k) (counts 0 (f ∷ fs))) (omega (arith, ap length e)) (counts_end 0 f fs)
+last_count (f ∷ fs) file e h = subst (λ (k : ℕ). EndsWith (Ok (Complete k)) (counts 0 (f ∷ fs))) (omega (arith, ap length e)) (counts_end 0 f fs)
 
 -- ---- the demand
 
@@ -172,6 +173,6 @@ delivered session limit b before σ file is τ s a e =
           ∙ ap (counts 0) (sym same)
           ∙ sym (alone_counted session limit file d alone ρ (subst (Carried session limit file) (sym same) a.carried) fits a.datagram new);
       counted = g.counted;
-      complete = subst (EndsWith (Complete (length file))) (sym g.counted) (last_count (frames_of (own is)) file a.carried.whole (omega arith));
+      complete = subst (EndsWith (Ok (Complete (length file)))) (sym g.counted) (last_count (frames_of (own is)) file a.carried.whole (omega arith));
       bytes = g.stored ∙ ap (sets σ.buffer 0) a.carried.whole ∙ sets_over σ.buffer file (omega (arith, a.fits, i.room));
     }

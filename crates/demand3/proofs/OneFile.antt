@@ -12,7 +12,8 @@ use lib.Seq.{sets, take-add, take-length}
 use Rattle.sm160_frame.specs.Layout.{offset_of, part_of, is_start, is_end}
 use Rattle.sm160_frame.proofs.Limit.{part_within}
 use Rattle.sm160_receiver.specs.Receiving.{reached, state_after}
-use Rattle.sm160_receiver.specs.declared.Answer.TheVariants.{Complete}
+use Rattle.std.specs.Prelude.{Ok}
+use Rattle.sm160_receiver.specs.declared.Progress.TheVariants.{Complete}
 use Rattle.demand3.specs.Feeding.{Side, side, Exchange, EndsWith, Fed, ByStep}
 use Rattle.demand3.specs.Completion.{is_refused}
 use Rattle.demand3.specs.OneFile.{StandsIn, EndsOnlyWith, Accepted, StartFirst, EachAccepted, OfOneFile, Reports}
@@ -35,7 +36,7 @@ module _ (file b : List ℕ) where
   record Goes (x : Exchange) (τ : Side) : Type 0 where
     front : Front τ
     rest : Rest τ
-    reports : (n : ℕ) → x.answer ≡ Complete n → Reports file n b τ.buffer
+    reports : (n : ℕ) → x.answer ≡ Ok (Complete n) → Reports file n b τ.buffer
 
   -- a frame is taken at σ, where the bytes before its part are the file's
   module _ (σ : Side) (x : Exchange) (τ : Side) (w : IsTaken σ x τ) (stands : StandsIn file x.frame) (ends : EndsOnlyWith file x.frame)
@@ -131,6 +132,6 @@ from_start file σ (x ∷ earlier) f n τ e h =
 -- A receiver is at σ, whatever came before, and is fed frames that lead to τ: first an accepted START, and all that are accepted are of one file.
 -- Where the last is answered with completion at n, it reports that file, whole.
 pub one_file : (file : List ℕ) (σ : Side) (xs : List Exchange) (τ : Side) (n : ℕ)
-    → Fed ByStep σ xs τ → OfOneFile file xs → EndsWith (Complete n) xs → Reports file n σ.buffer τ.buffer
+    → Fed ByStep σ xs τ → OfOneFile file xs → EndsWith (Ok (Complete n)) xs → Reports file n σ.buffer τ.buffer
 one_file file σ xs τ n e h w =
     from_start file σ w.0 w.1 n τ (subst (λ (l : List Exchange). Fed ByStep σ l τ) w.2 e) (subst (OfOneFile file) w.2 h)

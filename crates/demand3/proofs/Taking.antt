@@ -12,15 +12,17 @@ use lib.ListN.{length, take, drop, length-append}
 use lib.Seq.{sets, length-sets, sets-eq, take_at, length-take-le, drop-append-add, drop-drop}
 use Rattle.wire.specs.Refusal.{first, NoneHolds}
 use Rattle.wire.proofs.Answer.{accepted_as}
-use Rattle.wire.proofs.Refusal.{first_none, none_first, none_append, none_both, asked, unasked}
+use Rattle.wire.proofs.Rules.{first_none, none_first, none_append, none_both, asked, unasked}
 use Rattle.sm160_frame.specs.Layout.{session_of, offset_of, part_of, is_start, is_end}
 use Rattle.sm160_frame.specs.Reading.{bad_largest, frame_rules, frame_fault}
 use Rattle.sm160_frame.proofs.Limit.{part_within}
 use Rattle.sm160_datagram.specs.Reading.{datagram_rules, datagram_fault}
-use Rattle.sm160_receiver.specs.Receiving.{opened, open_rules, opening, told_opening, reached, unfit, place_rules, file_with, file_rules, up_to31, receive_rules, refusal, reply, state_after, After, Took}
+use Rattle.sm160_receiver.specs.Receiving.{opened, open_rules, opening, reached, unfit, place_rules, file_with, file_rules, up_to31, receive_rules, refusal, reply, state_after, After, Took}
 use Rattle.sm160_receiver.specs.declared.Receiver.{Receiver}
-use Rattle.sm160_receiver.specs.declared.Opening.TheVariants.{Ready, Refused as Unopened}
-use Rattle.sm160_receiver.specs.declared.Answer.TheVariants.{Complete, Refused}
+use Rattle.sm160_receiver.specs.declared.Progress.TheVariants.{Complete}
+use Rattle.std.specs.Prelude.{Ok, Err}
+use Rattle.wire.specs.Numbered.{refusal as by_number}
+use Rattle.wire.specs.declared.refusals.Refusal.{Refusal}
 use Rattle.sm160_receiver.proofs.Steps.{step_refused, step_accepted}
 use Rattle.demand3.specs.Feeding.{Side, side, Exchange, Fed, ByStep}
 use Rattle.demand3.specs.Completion.{is_refused}
@@ -114,8 +116,8 @@ abbrev pub landed : Side → List ℕ → Side
 landed σ f = side (state_after (is_end f) σ.state (reached f)) (sets σ.buffer (offset_of f) (part_of f))
 
 pub record IsRefused (σ : Side) (x : Exchange) (τ : Side) : Type 0 where
-  pub number : ℕ
-  pub answered : x.answer ≡ Refused number
+  pub why : Refusal
+  pub answered : x.answer ≡ Err why
   pub same : τ ≡ σ
 
 pub record IsTaken (σ : Side) (x : Exchange) (τ : Side) : Type 0 where
@@ -140,7 +142,7 @@ either_way σ x τ e = go (refusal σ.state σ.buffer x.frame) refl
     go zero z = inr (takes σ x τ e (taken_of σ x.frame z))
     go (suc n) z =
         let r = e ∙ step_refused σ.state x.frame σ.buffer (suc n) (sym z) (λ q. omega arith) in
-        inl (record { number = suc n; answered = ap (λ (o : After). o.answer) r; same = ap side_of r })
+        inl (record { why = by_number (suc n); answered = ap (λ (o : After). o.answer) r; same = ap side_of r })
 
 reply_not : (end : Bool) (n : ℕ) → is_refused (reply end n) ≡ false
 reply_not true n = refl
@@ -155,13 +157,13 @@ pub accepted_taken : (σ : Side) (x : Exchange) (τ : Side) → ByStep σ x τ �
 accepted_taken σ x τ e a = ⊎_elim (λ w. absurd (false≢true (sym a ∙ ap is_refused w.answered))) (λ w. w) (either_way σ x τ e)
 
 -- an answer of completion: END is set, and the length is where the frame's part ends
-pub reply_complete : (end : Bool) (m n : ℕ) → reply end m ≡ Complete n → (end ≡ true) × (m ≡ n)
+pub reply_complete : (end : Bool) (m n : ℕ) → reply end m ≡ Ok (Complete n) → (end ≡ true) × (m ≡ n)
 reply_complete true m n e = (refl, (cc))
 reply_complete false m n e = absurd (let z : ◌≡◌ {A = ℕ} 0 1 = cc in omega arith)
 
 -- a refusal changes nothing
-pub unchanged : (σ : Side) (x : Exchange) (τ : Side) (n : ℕ) → ByStep σ x τ → x.answer ≡ Refused n → τ ≡ σ
-unchanged σ x τ n e r = ⊎_elim (λ w. w.same) (λ w. absurd (false≢true (sym (taken_not σ x τ w) ∙ ap is_refused r))) (either_way σ x τ e)
+pub unchanged : (σ : Side) (x : Exchange) (τ : Side) (why : Refusal) → ByStep σ x τ → x.answer ≡ Err why → τ ≡ σ
+unchanged σ x τ why e r = ⊎_elim (λ w. w.same) (λ w. absurd (false≢true (sym (taken_not σ x τ w) ∙ ap is_refused r))) (either_way σ x τ e)
 
 -- ---- what opening set is kept: a frame sets neither session nor limit
 pub record Keeps (σ τ : Side) : Type 0 where
@@ -223,14 +225,13 @@ module _ (session limit m : ℕ) where
   fit_fed σ (x ∷ xs) τ h i = fit_fed h.0 xs τ h.2 (fit_next σ x h.0 h.1 i)
 
 -- where `open` does not refuse
-pub opened_as : (session limit : ℕ) (s : Receiver) → opening session limit ≡ Ready s → (s ≡ opened session limit) × (bad_largest limit ≡ false)
+pub opened_as : (session limit : ℕ) (s : Receiver) → opening session limit ≡ Ok s → (s ≡ opened session limit) × (bad_largest limit ≡ false)
 unfolding opening
 opened_as session limit s e =
-    let ok = accepted_as Unopened (Ready (opened session limit)) (λ o. (told_opening o).number) (λ n. refl) (first (open_rules limit)) (Ready s) e refl in
-    let same : Ready (opened session limit) ≡ Ready s = ok.1 in
-    ((cc), (none_first (open_rules limit) tt ok.0).0)
+    let ok = accepted_as (opened session limit) (first (open_rules limit)) s e in
+    (sym ok.1, (none_first (open_rules limit) tt ok.0).0)
 
-pub fit_opened : (session limit : ℕ) (s : Receiver) (b : List ℕ) → opening session limit ≡ Ready s → FitFor session limit (length b) (side s b)
+pub fit_opened : (session limit : ℕ) (s : Receiver) (b : List ℕ) → opening session limit ≡ Ok s → FitFor session limit (length b) (side s b)
 unfolding unfit
 fit_opened session limit s b e =
     let o = opened_as session limit s e in

@@ -13,7 +13,9 @@ use Rattle.checksum.specs.Crc32.{crc32_from}
 use Rattle.sm160_frame.specs.Layout.{END, crc_due, part_of, is_start, is_end, frame_with, frame_bytes}
 use Rattle.sm160_datagram.specs.Layout.{opening_bytes, covered_bytes, closing_bytes, datagram_bytes, crc_due as crc32Due}
 use Rattle.sm160_receiver.specs.Receiving.{opened, holding, reached, unfit, refusal, step, Took}
-use Rattle.sm160_receiver.specs.declared.Answer.TheVariants.{Complete}
+use Rattle.std.specs.Prelude.{Ok}
+use Rattle.wire.specs.Numbered.{refusal as by_number}
+use Rattle.sm160_receiver.specs.declared.Progress.TheVariants.{Complete}
 use Rattle.demand3.specs.Feeding.{Side, side, EndsWith, Fed}
 use Rattle.demand3.specs.Calls.{ByCall, Calls}
 use Rattle.demand3.specs.OneFile.{StartFirst, EachAccepted, OfOneFile}
@@ -37,8 +39,8 @@ refused e = absurd (true≢false e)
 no_end : {A : Type 0} → false ≡ true → A
 no_end e = absurd (false≢true e)
 
-pub two_cuts_lem : (σ τ : Side) × Calls 7 8 lent_buffer stump σ × Fed ByCall σ two_cuts τ × OfOneFile twenty_bytes two_cuts × EndsWith (Complete 20) two_cuts
-unfolding digits number le of_le field pick crc_bits remainder crc_due crc32_from opening_bytes covered_bytes closing_bytes datagram_bytes crc32Due part_of is_start is_end frame_with frame_bytes reached unfit refusal step Took Fed StartFirst EachAccepted
+pub two_cuts_lem : (σ τ : Side) × Calls 7 8 lent_buffer stump σ × Fed ByCall σ two_cuts τ × OfOneFile twenty_bytes two_cuts × EndsWith (Ok (Complete 20)) two_cuts
+unfolding digits number le of_le field pick crc_bits remainder crc_due crc32_from opening_bytes covered_bytes closing_bytes datagram_bytes crc32Due part_of is_start is_end frame_with frame_bytes reached unfit refusal by_number step Took Fed StartFirst EachAccepted
 two_cuts_lem = (
   after_stump,
   after_cuts,

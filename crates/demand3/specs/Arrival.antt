@@ -1,31 +1,32 @@
 -- What it is for a file to arrive, and what is then delivered.
 -- Assumes nothing.
-use Rattle.std.specs.Prelude.{ℕ, ◌+◌, ◌≤◌, ◌≡◌, List, [], ◌∷◌, ◌++◌, map, length, drop}
+use Rattle.std.specs.Prelude.{ℕ, ◌+◌, ◌≤◌, ◌≡◌, List, [], ◌∷◌, ◌++◌, map, length, drop, Ok, Err}
 use Rattle.sm160_frame.specs.Layout.{part_of}
 use Rattle.sm160_frame.specs.Carried.{none, Carried}
 use Rattle.sm160_datagram.specs.Reading.{datagram_fault}
 use Rattle.sm160_receiver.specs.Receiving.{reply}
-use Rattle.sm160_receiver.specs.declared.Answer.TheVariants.{Complete, Refused}
+use Rattle.sm160_receiver.specs.declared.Progress.TheVariants.{Complete}
+use Rattle.wire.specs.declared.refusals.Refusal.{Refusal}
 use Rattle.demand3.specs.Feeding.{Side, Exchange, exchange, frames_of, EndsWith}
 
 -- ---- a file arrives
 
--- what comes in while it does: a frame of the file, with what is answered to it; or another frame, with the number that refuses it
+-- what comes in while it does: a frame of the file, with what is answered to it; or another frame, with what refuses it
 pub data Item : Type 0 where
   file_frame : Exchange → Item
-  other_frame : List ℕ → ℕ → Item
+  other_frame : List ℕ → Refusal → Item
 
 -- all that comes in
 unfoldable pub all : List Item → List Exchange
 all [] = []
 all (file_frame x ∷ is) = x ∷ all is
-all (other_frame f n ∷ is) = exchange f (Refused n) ∷ all is
+all (other_frame f e ∷ is) = exchange f (Err e) ∷ all is
 
 -- the file's own
 unfoldable pub own : List Item → List Exchange
 own [] = []
 own (file_frame x ∷ is) = x ∷ own is
-own (other_frame f n ∷ is) = own is
+own (other_frame f e ∷ is) = own is
 
 -- "Demand 3 then speaks of parts up to that limit", and of "a well-formed datagram, one that meets none of 37 to 39, so demand 3 speaks of such
 -- files": the file arrives in the session, for a receiver that was opened with the limit and lent the
@@ -56,7 +57,7 @@ pub record Delivered (FedNew : ℕ → ℕ → List ℕ → List Exchange → Si
   -- which is with the bytes held so far
   pub counted : own is ≡ counts 0 (frames_of (own is))
   -- the file is reported complete at its last frame, at its true length
-  pub complete : EndsWith (Complete (length file)) (own is)
+  pub complete : EndsWith (Ok (Complete (length file))) (own is)
   -- the buffer begins with it and is otherwise as before its first frame
   pub bytes : τ.buffer ≡ file ++ drop (length file) σ.buffer
 

@@ -1,20 +1,17 @@
--- Calls of the receiver's functions. Of each is known that it met its contract, as the source states it: `Post` is made from the source, and
--- `lent_read` reads the source's clause of `receive_lent`, of which the older kit made no `Post`.
+-- Calls of the receiver's functions. Of each is known that it met its contract, as the source states it: `Post` is made from the source.
 -- Assumes nothing.
-use Rattle.std.specs.Prelude.{ℕ, List}
-use borrow.Fn.Claims.{AllOf}
+use Rattle.std.specs.Prelude.{ℕ, List, Ok}
 use borrow.Fn.World.{ArgsD, ResD}
 use contract.Lifetimes.{Lfts}
 use denote.Triple.Clauses.{AtExit}
 use Rattle.sm160_receiver.specs.Receiving.{opened, standing}
 use Rattle.sm160_receiver.specs.declared.Receiver.{Receiver}
-use Rattle.sm160_receiver.specs.declared.Opening.TheVariants.{Ready}
 use Rattle.sm160_receiver.specs.contracts.open as opening
 use Rattle.sm160_receiver.proofs.open.Reads as opens
 use Rattle.sm160_receiver.specs.contracts.receive as receiving
 use Rattle.sm160_receiver.proofs.receive.Reads as receives
 use Rattle.sm160_receiver.specs.contracts.receive_lent as lent
-use Rattle.sm160_receiver.proofs.Unique.{lent_read}
+use Rattle.sm160_receiver.proofs.receive_lent.Reads as receives_lent
 use Rattle.sm160_receiver.specs.contracts.receive_plain as plain
 use Rattle.sm160_receiver.proofs.receive_plain.Reads as plainly
 use Rattle.demand3.specs.Feeding.{Side, side, Exchange, exchange, Fed}
@@ -22,7 +19,7 @@ use Rattle.demand3.specs.Feeding.{Side, side, Exchange, exchange, Fed}
 -- `open`, called for a session and a largest part, answered a receiver: so it did not refuse
 pub data ByOpen : ℕ → ℕ → Receiver → Type 0 where
   of_open : (κs : Lfts 0) (a : ArgsD opening.signature κs) (s : Receiver) (e : AtExit opening.ended κs)
-      → opens.Post κs a (Ready s) e
+      → opens.Post κs a (Ok s) e
       → ByOpen a.0 a.1.0 s
 
 -- A call found a state and a buffer, answered a frame, and left a state and a buffer. Its arguments are a, in the source's order
@@ -32,7 +29,7 @@ pub data ByCall : Side → Exchange → Side → Type 0 where
       → receives.Post κs a r e
       → ByCall (side a.0 a.1.1.0.now) (exchange a.1.0.now r.answer) (side r.state e.1.1.0.now)
   of_receive_lent : (κs : Lfts 3) (a : ArgsD lent.signature κs) (r : ResD lent.signature κs) (e : AtExit lent.ended κs)
-      → AllOf (lent_read κs a r e).owes
+      → receives_lent.Post κs a r e
       → ByCall (side a.0.now a.1.1.0.now) (exchange a.1.0.now r) (side e.0.now e.1.1.0.now)
   of_receive_plain : (κs : Lfts 2) (a : ArgsD plain.signature κs) (r : ResD plain.signature κs) (e : AtExit plain.ended κs)
       → plainly.Post κs a r e

@@ -1,17 +1,14 @@
 -- What stands in the buffer whenever completion is reported.
 -- Assumes nothing.
-use Rattle.std.specs.Prelude.{ℕ, ◌≡◌, Bool, true, false, cond, List, [], ◌∷◌, ◌++◌, length, take}
+use Rattle.std.specs.Prelude.{ℕ, ◌≡◌, Bool, true, false, cond, List, [], ◌∷◌, ◌++◌, length, take, Ok, Err}
 use Rattle.sm160_frame.specs.Layout.{is_start}
 use Rattle.sm160_frame.specs.Carried.{joined, Carried}
 use Rattle.sm160_datagram.specs.Reading.{datagram_fault}
-use Rattle.sm160_receiver.specs.declared.Answer.{Answer}
-use Rattle.sm160_receiver.specs.declared.Answer.TheVariants.{Held, Complete, Refused}
-use Rattle.demand3.specs.Feeding.{Exchange}
+use Rattle.demand3.specs.Feeding.{Answer, Exchange}
 
 abbrev pub is_refused : Answer → Bool
-is_refused (Held n) = false
-is_refused (Complete n) = false
-is_refused (Refused n) = true
+is_refused (Ok p) = false
+is_refused (Err e) = true
 
 -- the frames that are accepted
 unfoldable pub accepted_frames : List Exchange → List (List ℕ)

@@ -1,10 +1,14 @@
 -- A receiver that is fed frames in turn, with one buffer that, like its state, nobody else writes.
 -- Assumes nothing.
-use Rattle.std.specs.Prelude.{ℕ, ◌≡◌, List, [], ◌∷◌, ◌++◌}
+use Rattle.std.specs.Prelude.{ℕ, ◌≡◌, List, [], ◌∷◌, ◌++◌, Result, Ok}
 use Rattle.sm160_receiver.specs.Receiving.{opening, Took}
 use Rattle.sm160_receiver.specs.declared.Receiver.{Receiver}
-use Rattle.sm160_receiver.specs.declared.Opening.TheVariants.{Ready}
-use Rattle.sm160_receiver.specs.declared.Answer.{Answer}
+use Rattle.sm160_receiver.specs.declared.Progress.{Progress}
+use Rattle.wire.specs.declared.refusals.Refusal.{Refusal}
+
+-- what is answered to a frame
+abbrev pub Answer : Type 0
+Answer = Result Progress Refusal
 
 -- a receiver's state, and the buffer that it is lent
 pub record Side : Type 0 where
@@ -42,4 +46,4 @@ ByStep σ x τ = Took σ.state x.frame σ.buffer x.answer τ.state τ.buffer
 
 -- a receiver is opened for a session and a limit, lent the buffer b, and fed frames
 abbrev pub Steps : ℕ → ℕ → List ℕ → List Exchange → Side → Type 0
-Steps session limit b xs τ = (s : Receiver) × (opening session limit ≡ Ready s) × Fed ByStep (side s b) xs τ
+Steps session limit b xs τ = (s : Receiver) × (opening session limit ≡ Ok s) × Fed ByStep (side s b) xs τ

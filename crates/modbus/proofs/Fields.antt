@@ -10,10 +10,10 @@ use lib.Seq.{get_or_at, take_at, drop_at, drop-cons, drop-drop, take_all, length
 use borrow.Author.Tests.{le-ltb, ltb-false}
 use Rattle.wire.specs.Numbers.{field, over}
 use Rattle.wire.specs.Refusal.{Rule}
-use Rattle.wire.specs.declared.Written.{Written}
-use Rattle.wire.specs.declared.Written.TheVariants.{Length}
+use Rattle.std.specs.Prelude.{Ok}
+use Rattle.wire.specs.Writes.{Written}
 use Rattle.wire.proofs.Fields.{field_take}
-use Rattle.wire.proofs.Refusal.{first_none, none_first}
+use Rattle.wire.proofs.Rules.{first_none, none_first}
 use Rattle.wire.proofs.Writes.{wrote_front, wrote_all}
 use Rattle.modbus.specs.Envelope.{Message, Envelope, message, content_of, enveloped, bytes_of, address_of, function_of, data_of, write_rules, WritesEnvelope}
 
@@ -90,13 +90,13 @@ module _ (e : Envelope) (m : Message) (out : List ℕ) (r : Written) (out' : Lis
   rules = write_rules m.«data» (length (bytes_of e m)) out
 
   -- an answered length: the data is no longer than 252, and the output begins with the envelope, so long
-  pub written_front : (k : ℕ) → r ≡ Length k → (length m.«data» ≤ 252) × (take k out' ≡ bytes_of e m)
+  pub written_front : (k : ℕ) → r ≡ Ok k → (length m.«data» ≤ 252) × (take k out' ≡ bytes_of e m)
   written_front k q =
       let front = wrote_front _ (bytes_of e m) out r out' k w q in
       (ltb-false 252 (length m.«data») (none_first rules tt front.0).0, front.1)
 
   -- data of up to 252 bytes, and an output with room: it is written
-  pub written_whole : length m.«data» ≤ 252 → length (bytes_of e m) ≤ length out → (r ≡ Length (length (bytes_of e m))) × (out' ≡ over out (bytes_of e m))
+  pub written_whole : length m.«data» ≤ 252 → length (bytes_of e m) ≤ length out → (r ≡ Ok (length (bytes_of e m))) × (out' ≡ over out (bytes_of e m))
   written_whole small room =
       wrote_all _ (bytes_of e m) out r out' w
       (first_none rules (le-ltb 252 (length m.«data») small, (le-ltb (length out) (length (bytes_of e m)) room, tt)))

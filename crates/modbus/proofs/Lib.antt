@@ -1,5 +1,4 @@
 pub mod Stores
-pub mod Answers
 pub mod Fields
 pub mod Lawful
 pub mod Promise

@@ -9,7 +9,7 @@ use lib.ListN.{length, take, drop}
 use lib.Seq.{take_at}
 use Rattle.wire.specs.Each.{Bytes}
 use Rattle.wire.specs.Refusal.{Rule, NoneHolds}
-use Rattle.wire.specs.declared.Written.TheVariants.{Length}
+use Rattle.std.specs.Prelude.{Ok}
 use Rattle.wire.specs.Numbers.{over}
 use Rattle.wire.proofs.Each.{get_d_each, each_take, each_drop}
 use Rattle.modbus.specs.Envelope.{Message, Envelope, message, content_of, plain_of, bytes_of, said_by, address_of, function_of, data_of, line_length}
@@ -112,4 +112,4 @@ module _ (e : Envelope) (rules : List ℕ → List Rule) (law : Lawful e rules) 
     writes_again carries s m out r out' hs read room w =
         let o = own s m hs (carries s m hs read) in
         let whole = fields.written_whole e m out r out' w o.2 (subst (λ (l : List ℕ). length l ≤ length out) o.0 room) in
-        (whole.0 ∙ ap (λ (l : List ℕ). Length (length l)) (sym o.0), whole.1 ∙ ap (over out) (sym o.0))
+        (whole.0 ∙ ap (λ (l : List ℕ). Ok (length l)) (sym o.0), whole.1 ∙ ap (over out) (sym o.0))

@@ -15,18 +15,16 @@ use Rattle.checksum.proofs.Laws.{crc_from_lt}
 use Rattle.wire.specs.Each.{Bytes}
 use Rattle.wire.specs.Numbers.{le, of_le, be, of_be, field}
 use Rattle.wire.specs.Refusal.{first, NoneHolds}
-use Rattle.wire.proofs.Answer.{answered_none, accepted_as}
+use Rattle.wire.proofs.Answer.{judged_none, accepted_as}
 use Rattle.wire.proofs.Fields.{field_at, field_take, field_append, field_bytes, length_field, number_at, number_again}
 use Rattle.wire.proofs.Numbers.{length_be, length_le, of_be_be, be_of_be}
-use Rattle.wire.proofs.Refusal.{first_none, none_first}
+use Rattle.wire.proofs.Rules.{first_none, none_first}
 use Rattle.modbus.specs.Envelope.{Message, content_of, plain_of, bytes_of, said_by, address_of, function_of}
 use Rattle.modbus.specs.Promise.{Fits, Carries, Finds, OneEnvelope, ReadsBack, WritesAgain}
-use Rattle.modbus.specs.Rtu.{rtu, crc_of, covered_of, bad_crc, rtu_rules, found_rtu, read_rtu, RtuAnswers, told_rtu_read}
-use Rattle.modbus.specs.Tcp.{tcp, tcp_head, tcp_said, transaction_of, protocol_of, length_of, bad_protocol, bad_length, tcp_rules, found_tcp, read_tcp, TcpAnswers, told_tcp_read}
+use Rattle.modbus.specs.Rtu.{rtu, crc_of, covered_of, bad_crc, rtu_rules, found_rtu, read_rtu, RtuAnswers}
+use Rattle.modbus.specs.Tcp.{tcp, tcp_head, tcp_said, transaction_of, protocol_of, length_of, bad_protocol, bad_length, tcp_rules, found_tcp, read_tcp, TcpAnswers}
 use Rattle.modbus.specs.declared.Rtu.{Rtu}
-use Rattle.modbus.specs.declared.RtuRead.TheVariants.{Refused as RtuRefused}
 use Rattle.modbus.specs.declared.Tcp.{Tcp}
-use Rattle.modbus.specs.declared.TcpRead.TheVariants.{Refused as TcpRefused}
 use Rattle.modbus.proofs.Fields as fields
 use Rattle.modbus.proofs.Lawful.{Lawful}
 use Rattle.modbus.proofs.Promise.{same_message, one_envelope, reads_back, writes_again}
@@ -74,17 +72,15 @@ rtu_lawful =
 rtu_answers : (s : List ℕ) (m : Message) → Carries rtu rtu_rules s m → RtuAnswers s m
 unfolding read_rtu
 rtu_answers s m c =
-    (answered_none RtuRefused (found_rtu (said_by rtu s)) _ (first_none (rtu_rules s) c.accepted) ∙ ap found_rtu c.says, ap (λ (x : Message). x.«data») c.says)
+    (judged_none _ _ (first_none (rtu_rules s) c.accepted) ∙ ap found_rtu c.says, ap (λ (x : Message). x.«data») c.says)
 
 rtu_carries : (s : List ℕ) (m : Message) → Bytes s → RtuAnswers s m → Carries rtu rtu_rules s m
 unfolding read_rtu
 rtu_carries s m hb q =
-    let ok = accepted_as RtuRefused (found_rtu (said_by rtu s)) (λ r. (told_rtu_read r).number) (λ n. refl) (first (rtu_rules s)) (found_rtu m) q.0 refl in
-    let found : found_rtu (said_by rtu s) ≡ found_rtu m = ok.1 in
-    let e : ◌≡◌ {A = Rtu} (record { address = address_of 0 s; function = function_of 0 s }) (record { address = m.address; function = m.function }) = cc in
+    let ok = accepted_as (record { address = address_of 0 s; function = function_of 0 s }) (first (rtu_rules s)) (record { address = m.address; function = m.function }) q.0 in
     record {
       accepted = none_first (rtu_rules s) tt ok.0;
-      says = same_message (said_by rtu s) m (ap (λ (x : Rtu). x.address) e) (ap (λ (x : Rtu). x.function) e) q.1;
+      says = same_message (said_by rtu s) m (ap (λ (x : Rtu). x.address) ok.1) (ap (λ (x : Rtu). x.function) ok.1) q.1;
       begins = refl;
     }
 
@@ -181,15 +177,13 @@ module _ (t : ℕ) where
   tcp_carries : (s : List ℕ) (m : Message) → Bytes s → TcpAnswers t s m → Carries (tcp t) tcp_rules s m
   unfolding read_tcp
   tcp_carries s m hb q =
-      let ok = accepted_as TcpRefused (found_tcp (transaction_of s) (tcp_said s)) (λ r. (told_tcp_read r).number) (λ n. refl) (first (tcp_rules s)) (found_tcp t m) q.0 refl in
-      let found : found_tcp (transaction_of s) (tcp_said s) ≡ found_tcp t m = ok.1 in
-      let e : ◌≡◌ {A = Tcp} (record { transaction = transaction_of s; unit = address_of 6 s; function = function_of 6 s }) (record { transaction = t; unit = m.address; function = m.function }) = cc in
+      let ok = accepted_as (record { transaction = transaction_of s; unit = address_of 6 s; function = function_of 6 s }) (first (tcp_rules s)) (record { transaction = t; unit = m.address; function = m.function }) q.0 in
       let none = none_first (tcp_rules s) tt ok.0 in
-      let said = same_message (tcp_said s) m (ap (λ (x : Tcp). x.unit) e) (ap (λ (x : Tcp). x.function) e) q.1 in
+      let said = same_message (tcp_said s) m (ap (λ (x : Tcp). x.unit) ok.1) (ap (λ (x : Tcp). x.function) ok.1) q.1 in
       record {
         accepted = none;
         says = said;
-        begins = ap₂ (λ (x : ℕ) (y : Message). tcp_head x (length (content_of y))) (sym (ap (λ (x : Tcp). x.transaction) e)) (sym said) ∙ tcp_head_lem s hb none;
+        begins = ap₂ (λ (x : ℕ) (y : Message). tcp_head x (length (content_of y))) (sym (ap (λ (x : Tcp). x.transaction) ok.1)) (sym said) ∙ tcp_head_lem s hb none;
       }
 
   -- the transaction of bytes that begin with the envelope's head
@@ -202,7 +196,7 @@ module _ (t : ℕ) where
   tcp_answers : t < 65536 → (s : List ℕ) (m : Message) → Carries (tcp t) tcp_rules s m → TcpAnswers t s m
   unfolding read_tcp
   tcp_answers ht s m c = (
-    answered_none TcpRefused (found_tcp (transaction_of s) (tcp_said s)) _ (first_none (tcp_rules s) c.accepted)
+    judged_none _ _ (first_none (tcp_rules s) c.accepted)
         ∙ ap₂ found_tcp (stands ht s (length (content_of m)) c.begins) c.says,
     ap (λ (x : Message). x.«data») c.says,
   )

@@ -1,11 +1,10 @@
 -- The stores of the writers, one after another, are the layouts.
 -- Assumes nothing.
-use mathlib.Core.Path.{◌≡◌, sym, ap, ap₂, ◌∙◌}
+use mathlib.Core.Path.{◌≡◌, sym, ap, ◌∙◌}
 use mathlib.Core.List.{List, ◌++◌, append_assoc, append-nil}
-use Prim.Native.Nat.{ℕ, suc, ◌+◌, ◌≤◌}
-use native.Mathlib.Numerals.{add-one}
+use Prim.Native.Nat.{ℕ, ◌+◌, ◌≤◌}
 use native.Mathlib.Omega.{arith}
-use lib.ListN.{length, set, take, length-append}
+use lib.ListN.{length, take, length-append}
 use lib.Seq.{sets}
 use Rattle.checksum.specs.Crc.{crc}
 use Rattle.wire.specs.Numbers.{be, le}
@@ -14,11 +13,6 @@ use Rattle.wire.proofs.Writing.{sets_then, take_sets}
 use Rattle.modbus.specs.Envelope.{message, content_of, bytes_of}
 use Rattle.modbus.specs.Rtu.{rtu}
 use Rattle.modbus.specs.Tcp.{tcp_head, tcp}
-
-pub stored_content : (a f : ℕ) (d out : List ℕ) (at : ℕ) → sets (set (set out at a) (at + 1) f) (at + 2) d ≡ sets out at (content_of (message a f d))
-stored_content a f d out at =
-    let two : at + 2 ≡ suc (suc at) = omega arith in
-    ap₂ (λ (i j : ℕ). sets (set (set out at a) i f) j d) (add-one at) two
 
 module _ (a f : ℕ) (d : List ℕ) where
   abbrev Content : List ℕ

@@ -3,8 +3,12 @@
 use mathlib.Core.Path.{sym, ◌∙◌}
 use mathlib.Core.List.{List}
 use Prim.Native.Nat.{ℕ}
+use denote.RattleType.{RattleType}
+use denote.Param.Laws.{Laws}
+use mir.Syntax.{Dict}
+use Rattle.modbus.specs.declared.envelope.Envelope.{Ghosts}
 use Rattle.wire.specs.Unique.{Unique}
-use Rattle.wire.specs.declared.Written.{Written}
+use Rattle.wire.specs.Writes.{Written}
 use Rattle.wire.proofs.Writes.{writes_once}
 use Rattle.modbus.proofs.read_rtu.Reads as read-rtu
 use Rattle.modbus.proofs.rtu_data.Reads as rtu-data
@@ -18,6 +22,8 @@ use Rattle.modbus.proofs.envelope.too_short.Reads as too_short
 use Rattle.modbus.proofs.envelope.too_long.Reads as too_long
 use Rattle.modbus.proofs.envelope.no_room.Reads as no_room
 use Rattle.modbus.proofs.envelope.write_fault.Reads as write-fault
+use Rattle.modbus.proofs.envelope.between.Reads as between
+use Rattle.modbus.proofs.envelope.write.Reads as write
 
 pub read_rtu_unique : Unique read-rtu.Post (λ κs r s. r)
 read_rtu_unique κs a r r' s s' e e' = e ∙ sym e'
@@ -54,3 +60,10 @@ no_room_unique κs a r r' s s' e e' = e ∙ sym e'
 
 pub write_fault_unique : Unique write-fault.Post (λ κs r s. r)
 write_fault_unique κs a r r' s s' e e' = e ∙ sym e'
+
+pub between_unique : Unique between.Post (λ κs r s. r.now)
+between_unique κs a r r' s s' e e' = e ∙ sym e'
+
+-- of any envelope
+pub write_unique : (E : RattleType) (laws : Laws E) (ghosts : Ghosts E.Denot) (dict : Dict) → Unique {Y = λ κs. Written × List ℕ} (write.Post E laws ghosts dict) (λ κs r s. (r, s.1.1.0.now))
+write_unique E laws ghosts dict κs a r r' s s' w w' = writes_once _ _ _ _ _ _ _ w w'

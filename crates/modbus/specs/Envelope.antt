@@ -3,8 +3,8 @@
 -- Assumes nothing.
 use Rattle.std.specs.Prelude.{ℕ, ◌+◌, ◌-◌, Bool, List, [], ◌∷◌, ◌++◌, ltb, length, get_or, take, drop}
 use Rattle.wire.specs.Refusal.{Rule, ◌when◌, first}
-use Rattle.wire.specs.Writes.{Writes}
-use Rattle.wire.specs.declared.Written.{Written}
+use Rattle.wire.specs.Writes.{Written, Writes}
+use Rattle.modbus.specs.declared.envelope.Message.{Message as ToWrite}
 
 -- the address is TCP's unit
 pub record Message : Type 0 where
@@ -14,6 +14,10 @@ pub record Message : Type 0 where
 
 abbrev pub message : ℕ → ℕ → List ℕ → Message
 message address function «data» = record { address = address; function = function; «data» = «data» }
+
+-- as the code is given one to write
+abbrev pub message_of : ToWrite → Message
+message_of m = message m.address m.function m.«data».now
 
 -- its bytes
 abbrev pub content_of : Message → List ℕ

@@ -1,11 +1,10 @@
 -- What every envelope promises: reading, reading back and writing again, each said once.
 -- Assumes nothing.
-use Rattle.std.specs.Prelude.{ℕ, ◌≤◌, ◌≡◌, List, length, take}
+use Rattle.std.specs.Prelude.{ℕ, ◌≤◌, ◌≡◌, List, length, take, Ok}
 use Rattle.wire.specs.Each.{Bytes}
 use Rattle.wire.specs.Numbers.{over}
 use Rattle.wire.specs.Refusal.{Rule, NoneHolds}
-use Rattle.wire.specs.declared.Written.{Written}
-use Rattle.wire.specs.declared.Written.TheVariants.{Length}
+use Rattle.wire.specs.Writes.{Written}
 use Rattle.modbus.specs.Envelope.{Message, Envelope, content_of, bytes_of, said_by, WritesEnvelope}
 
 -- the numbers of a message are bytes
@@ -34,10 +33,10 @@ OneEnvelope e rules =
 -- reading back: where a writer answers a length, the output's front of that length reads as the message written
 abbrev pub ReadsBack : Envelope → (List ℕ → Message → Type 0) → Type 0
 ReadsBack e Answers =
-    (m : Message) (out : List ℕ) (r : Written) (out' : List ℕ) (k : ℕ) → Fits m → WritesEnvelope e m out r out' → r ≡ Length k → Answers (take k out') m
+    (m : Message) (out : List ℕ) (r : Written) (out' : List ℕ) (k : ℕ) → Fits m → WritesEnvelope e m out r out' → r ≡ Ok k → Answers (take k out') m
 
 -- writing again: a message that was read, written into an output with room, is the bytes received
 abbrev pub WritesAgain : Envelope → (List ℕ → Message → Type 0) → Type 0
 WritesAgain e Answers =
     (s : List ℕ) (m : Message) (out : List ℕ) (r : Written) (out' : List ℕ) → Bytes s → Answers s m → length s ≤ length out → WritesEnvelope e m out r out'
-    → (r ≡ Length (length s)) × (out' ≡ over out s)
+    → (r ≡ Ok (length s)) × (out' ≡ over out s)

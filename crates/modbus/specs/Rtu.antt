@@ -1,14 +1,15 @@
 -- The RTU envelope. CRC is the last two bytes received, and covers all before it.
 -- Assumes nothing.
-use Rattle.std.specs.Prelude.{ℕ, ◌-◌, ◌≡◌, Bool, not, List, [], ◌∷◌, eqb, length, take}
+use Rattle.std.specs.Prelude.{ℕ, ◌-◌, ◌≡◌, Bool, not, List, [], ◌∷◌, eqb, length, take, Result, Ok, Err}
 use Rattle.checksum.specs.Crc.{crc}
-use Rattle.wire.specs.Answer.{answered}
+use Rattle.wire.specs.Answer.{answered, refuse}
+use Rattle.wire.specs.Numbered.{number_of}
 use Rattle.wire.specs.Numbers.{le, of_le, field}
 use Rattle.wire.specs.Refusal.{Rule, ◌when◌, first}
 use Rattle.wire.specs.Told.{Told, accepted, refused}
 use Rattle.modbus.specs.Envelope.{Message, Envelope, pdu_of, said_by, too_short, too_long}
-use Rattle.modbus.specs.declared.RtuRead.{RtuRead}
-use Rattle.modbus.specs.declared.RtuRead.TheVariants.{Rtu as Found, Refused}
+use Rattle.modbus.specs.declared.Rtu.{Rtu}
+use Rattle.wire.specs.declared.refusals.Refusal.{Refusal}
 
 -- the last two bytes received, and what they cover
 abbrev pub crc_of : List ℕ → ℕ
@@ -53,16 +54,16 @@ abbrev pub rtu_pdu : List ℕ → List ℕ
 rtu_pdu s = pdu_of rtu.before rtu.after s
 
 -- the answer to a message that is read, and to any bytes
-abbrev pub found_rtu : Message → RtuRead
-found_rtu m = Found (record { address = m.address; function = m.function })
+abbrev pub found_rtu : Message → Result Rtu Refusal
+found_rtu m = Ok (record { address = m.address; function = m.function })
 
-unfoldable pub read_rtu : List ℕ → RtuRead
-read_rtu s = answered Refused (found_rtu (said_by rtu s)) (first (rtu_rules s))
+unfoldable pub read_rtu : List ℕ → Result Rtu Refusal
+read_rtu s = answered refuse (found_rtu (said_by rtu s)) (first (rtu_rules s))
 
 -- it reads m: its answer, and the data that is handed back
 abbrev pub RtuAnswers : List ℕ → Message → Type 0
 RtuAnswers s m = (read_rtu s ≡ found_rtu m) × (rtu_data s ≡ m.«data»)
 
-abbrev pub told_rtu_read : RtuRead → Told
-told_rtu_read (Found e) = accepted (e.address ∷ e.function ∷ [])
-told_rtu_read (Refused n) = refused n
+abbrev pub told_rtu_read : Result Rtu Refusal → Told
+told_rtu_read (Ok e) = accepted (e.address ∷ e.function ∷ [])
+told_rtu_read (Err e) = refused (number_of e)

@@ -1,13 +1,14 @@
 -- The TCP envelope. The unit stands in the address's place.
 -- Assumes nothing.
-use Rattle.std.specs.Prelude.{ℕ, ◌≡◌, Bool, not, List, [], ◌∷◌, ◌++◌, eqb, length, drop}
-use Rattle.wire.specs.Answer.{answered}
+use Rattle.std.specs.Prelude.{ℕ, ◌≡◌, Bool, not, List, [], ◌∷◌, ◌++◌, eqb, length, drop, Result, Ok, Err}
+use Rattle.wire.specs.Answer.{answered, refuse}
+use Rattle.wire.specs.Numbered.{number_of}
 use Rattle.wire.specs.Numbers.{be, of_be, field}
 use Rattle.wire.specs.Refusal.{Rule, ◌when◌, first}
 use Rattle.wire.specs.Told.{Told, accepted, refused}
 use Rattle.modbus.specs.Envelope.{Message, Envelope, pdu_of, said_by, too_short, too_long}
-use Rattle.modbus.specs.declared.TcpRead.{TcpRead}
-use Rattle.modbus.specs.declared.TcpRead.TheVariants.{Tcp as Found, Refused}
+use Rattle.modbus.specs.declared.Tcp.{Tcp}
+use Rattle.wire.specs.declared.refusals.Refusal.{Refusal}
 
 -- "TCP: transaction 2, protocol 2 (zero), length 2, unit 1, function 1, data 0 to 252; numbers most significant first; length counts all
 -- after itself", which is n bytes
@@ -73,16 +74,16 @@ abbrev pub tcp_pdu : List ℕ → List ℕ
 tcp_pdu s = pdu_of (tcp (transaction_of s)).before (tcp (transaction_of s)).after s
 
 -- the answer to a message that is read, and to any bytes
-abbrev pub found_tcp : ℕ → Message → TcpRead
-found_tcp transaction m = Found (record { transaction = transaction; unit = m.address; function = m.function })
+abbrev pub found_tcp : ℕ → Message → Result Tcp Refusal
+found_tcp transaction m = Ok (record { transaction = transaction; unit = m.address; function = m.function })
 
-unfoldable pub read_tcp : List ℕ → TcpRead
-read_tcp s = answered Refused (found_tcp (transaction_of s) (tcp_said s)) (first (tcp_rules s))
+unfoldable pub read_tcp : List ℕ → Result Tcp Refusal
+read_tcp s = answered refuse (found_tcp (transaction_of s) (tcp_said s)) (first (tcp_rules s))
 
 -- it reads m with a transaction: its answer, and the data that is handed back
 abbrev pub TcpAnswers : ℕ → List ℕ → Message → Type 0
 TcpAnswers transaction s m = (read_tcp s ≡ found_tcp transaction m) × (tcp_data s ≡ m.«data»)
 
-abbrev pub told_tcp_read : TcpRead → Told
-told_tcp_read (Found e) = accepted (e.transaction ∷ e.unit ∷ e.function ∷ [])
-told_tcp_read (Refused n) = refused n
+abbrev pub told_tcp_read : Result Tcp Refusal → Told
+told_tcp_read (Ok e) = accepted (e.transaction ∷ e.unit ∷ e.function ∷ [])
+told_tcp_read (Err e) = refused (number_of e)

@@ -1,7 +1,39 @@
-// What the envelopes share: their limits, and the order of writing.
-ghost use Rattle.std.specs.Prelude.{◌≡◌};
+// What the envelopes share: the message that is written, their limits, and the order of writing.
+ghost use Rattle.std.specs.Prelude.{◌≡◌, ◌+◌, ◌-◌, ◌≤◌, length, take, drop};
+ghost use Rattle.std.proofs.lemmas.List.Edits.{sets};
+ghost use Rattle.wire.specs.Answer.{judged};
 ghost use Rattle.wire.specs.Refusal.{first};
-ghost use Rattle.modbus.specs.Envelope.{too_short, too_long, too_much, no_room, write_rules};
+ghost use Rattle.modbus.specs.Envelope.{Envelope, message_of, content_of, bytes_of, too_short, too_long, too_much, no_room, write_rules, WritesEnvelope};
+
+use wire::{Refusal, Written};
+
+// What is written; the address is TCP's unit.
+#[derive(Clone, Copy)]
+pub struct Message<'a> {
+    pub address: u8,
+    pub function: u8,
+    pub data: &'a [u8],
+}
+
+impl Message<'_> {
+    // Its bytes, from a place on, in an output that has room.
+    pub(crate) fn put(&self, out: &mut [u8], at: usize)
+        requires { at + 2 ≤ length out.old }
+        ensures { out.new ≡ sets out.old at (content_of (message_of self.now)) }
+    {
+        wire::put(out, at, self.address);
+        wire::put(out, at + 1, self.function);
+        wire::put_all(out, at + 2, self.data);
+    }
+}
+
+// What stands after so many bytes and before so many.
+pub fn between(bytes: &[u8], before: usize, after: usize) -> &[u8]
+    ensures { result.now ≡ take (length bytes.now - (before + after)) (drop before bytes.now) }
+{
+    let rest = wire::rest(bytes, before);
+    wire::front(rest, wire::minus(rest.len(), after))
+}
 
 pub fn too_short(bytes: &[u8], least: usize) -> bool
     ensures { result ≡ too_short least bytes.now }
@@ -27,15 +59,40 @@ pub fn no_room(needed: usize, out: &[u8]) -> bool
     out.len() < needed
 }
 
-// The first fault in writing an envelope that needs so many bytes, 0 for none.
-pub fn write_fault(data: &[u8], needed: usize, out: &[u8]) -> u8
-    ensures { result ≡ first (write_rules «data».now needed out.now) }
+// The first fault in writing an envelope that needs so many bytes.
+pub fn write_fault(data: &[u8], needed: usize, out: &[u8]) -> Result<(), Refusal>
+    ensures { result ≡ judged tt (first (write_rules «data».now needed out.now)) }
 {
     if too_much(data) {
-        return 17;
+        return Err(Refusal::TooLong);
     }
     if no_room(needed, out) {
-        return 16;
+        return Err(Refusal::NoRoom);
     }
-    0
+    Ok(())
+}
+
+// How a message stands in bytes.
+pub trait Envelope {
+    ghost layout: { Self → Envelope };
+
+    // How many bytes they are; where the data is above 252 bytes, which is refused whatever they are, any number.
+    fn needed(&self, m: &Message) -> usize
+        ensures { length m.now.«data».now ≤ 252 → result ≡ length (bytes_of (layout self.now) (message_of m.now)) };
+
+    // Over the front of out.
+    fn put(&self, m: &Message, out: &mut [u8])
+        requires small { length m.now.«data».now ≤ 252 }
+        requires room { length (bytes_of (layout self.now) (message_of m.now)) ≤ length out.old }
+        ensures { out.new ≡ sets out.old 0 (bytes_of (layout self.now) (message_of m.now)) };
+}
+
+// The envelope, over the front of out.
+pub fn write<E: Envelope>(e: &E, m: &Message, out: &mut [u8]) -> Written
+    ensures { WritesEnvelope (E.layout e.now) (message_of m.now) out.old result out.new }
+{
+    let n = e.needed(m);
+    write_fault(m.data, n, out)?;
+    e.put(m, out);
+    Ok(n)
 }

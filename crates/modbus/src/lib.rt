@@ -1,41 +1,30 @@
 // The Modbus envelopes RTU and TCP, read and written, and what they share with ASCII. Nothing may follow an envelope. What each answers is in specs/.
 #![tactic(auto)]
 
-mod content;
 pub mod envelope;
 
 ghost use Rattle.std.specs.Prelude.{◌≡◌, ◌+◌, ◌≤◌, length};
 ghost use Rattle.std.proofs.lemmas.List.Edits.{sets};
+ghost use Rattle.wire.specs.Answer.{judged};
 ghost use Rattle.wire.specs.Refusal.{first};
-ghost use Rattle.modbus.specs.Envelope.{message, bytes_of, WritesEnvelope};
+ghost use Rattle.modbus.specs.Envelope.{message, message_of, bytes_of, WritesEnvelope};
 ghost use Rattle.modbus.specs.Rtu.{rtu, rtu_data, rtu_pdu, rtu_rules, read_rtu, bad_crc};
 ghost use Rattle.modbus.specs.Tcp.{tcp, tcp_data, tcp_pdu, tcp_rules, read_tcp, bad_protocol, bad_length};
 
-#[derive(Clone, Copy)]
+use envelope::{Envelope, Message};
+use wire::{Refusal, Written};
+
+#[derive(Clone, Copy, Debug, PartialEq, Eq)]
 pub struct Rtu {
     pub address: u8,
     pub function: u8,
 }
 
-#[derive(Clone, Copy)]
-pub enum RtuRead {
-    Rtu(Rtu),
-    // The paper's number.
-    Refused(u8),
-}
-
-#[derive(Clone, Copy)]
+#[derive(Clone, Copy, Debug, PartialEq, Eq)]
 pub struct Tcp {
     pub transaction: u16,
     pub unit: u8,
     pub function: u8,
-}
-
-#[derive(Clone, Copy)]
-pub enum TcpRead {
-    Tcp(Tcp),
-    // The paper's number.
-    Refused(u8),
 }
 
 fn bad_crc(bytes: &[u8]) -> bool
@@ -45,29 +34,27 @@ fn bad_crc(bytes: &[u8]) -> bool
     wire::le16_at(bytes, n) != checksum::checksum(wire::front(bytes, n))
 }
 
-fn rtu_fault(bytes: &[u8]) -> u8
-    ensures { result ≡ first (rtu_rules bytes.now) }
+// The two limits are asked in both judges, as both lists of rules have them: a judge of the limits alone would be longer than what it saves.
+fn judge_rtu(bytes: &[u8]) -> Result<(), Refusal>
+    ensures { result ≡ judged tt (first (rtu_rules bytes.now)) }
 {
     if envelope::too_short(bytes, 4) {
-        return 40;
+        return Err(Refusal::ShortEnvelope);
     }
     if envelope::too_long(bytes, 256) {
-        return 41;
+        return Err(Refusal::LongEnvelope);
     }
     if bad_crc(bytes) {
-        return 44;
+        return Err(Refusal::WrongCrc);
     }
-    0
+    Ok(())
 }
 
-pub fn read_rtu(bytes: &[u8]) -> RtuRead
+pub fn read_rtu(bytes: &[u8]) -> Result<Rtu, Refusal>
     ensures { result ≡ read_rtu bytes.now }
 {
-    let no = rtu_fault(bytes);
-    if no != 0 {
-        return RtuRead::Refused(no);
-    }
-    RtuRead::Rtu(Rtu {
+    judge_rtu(bytes)?;
+    Ok(Rtu {
         address: wire::byte_at(bytes, 0),
         function: wire::byte_at(bytes, 1),
     })
@@ -77,37 +64,44 @@ pub fn read_rtu(bytes: &[u8]) -> RtuRead
 pub fn rtu_data(bytes: &[u8]) -> &[u8]
     ensures { result.now ≡ rtu_data bytes.now }
 {
-    wire::front(wire::rest(bytes, 2), wire::minus(bytes.len(), 4))
+    envelope::between(bytes, 2, 2)
 }
 
 // Function and data as one: what stands between address and CRC.
 pub fn rtu_pdu(bytes: &[u8]) -> &[u8]
     ensures { result.now ≡ rtu_pdu bytes.now }
 {
-    wire::front(wire::rest(bytes, 1), wire::minus(bytes.len(), 3))
+    envelope::between(bytes, 1, 2)
 }
 
-fn put_rtu(address: u8, function: u8, data: &[u8], out: &mut [u8])
-    requires { length «data».now + 4 ≤ length out.old }
-    ensures { out.new ≡ sets out.old 0 (bytes_of rtu (message address function «data».now)) }
-{
-    content::put_content(address, function, data, out, 0);
-    let n = data.len() + 2;
-    let crc = checksum::checksum(&out[..n]);
-    wire::put_le16(out, n, crc);
+#[derive(Clone, Copy)]
+struct InRtu;
+
+impl Envelope for InRtu {
+    ghost layout = { λ e. rtu };
+
+    fn needed(&self, m: &Message) -> usize {
+        m.data.len() + 4
+    }
+
+    fn put(&self, m: &Message, out: &mut [u8]) {
+        m.put(out, 0);
+        let n = m.data.len() + 2;
+        let crc = checksum::checksum(&out[..n]);
+        wire::put_le16(out, n, crc);
+    }
 }
 
 // The envelope, over the front of out.
-pub fn write_rtu(address: u8, function: u8, data: &[u8], out: &mut [u8]) -> wire::Written
+pub fn write_rtu(address: u8, function: u8, data: &[u8], out: &mut [u8]) -> Written
     ensures { WritesEnvelope rtu (message address function «data».now) out.old result out.new }
 {
-    let n = data.len() + 4;
-    let no = envelope::write_fault(data, n, out);
-    if no != 0 {
-        return wire::Written::Refused(no);
-    }
-    put_rtu(address, function, data, out);
-    wire::Written::Length(n)
+    let m = Message {
+        address,
+        function,
+        data,
+    };
+    envelope::write(&InRtu, &m, out)
 }
 
 fn bad_protocol(bytes: &[u8]) -> bool
@@ -123,32 +117,29 @@ fn bad_length(bytes: &[u8]) -> bool
     wire::be16_at(bytes, 4) as usize != after.len()
 }
 
-fn tcp_fault(bytes: &[u8]) -> u8
-    ensures { result ≡ first (tcp_rules bytes.now) }
+fn judge_tcp(bytes: &[u8]) -> Result<(), Refusal>
+    ensures { result ≡ judged tt (first (tcp_rules bytes.now)) }
 {
     if envelope::too_short(bytes, 8) {
-        return 40;
+        return Err(Refusal::ShortEnvelope);
     }
     if envelope::too_long(bytes, 260) {
-        return 41;
+        return Err(Refusal::LongEnvelope);
     }
     if bad_protocol(bytes) {
-        return 42;
+        return Err(Refusal::OtherProtocol);
     }
     if bad_length(bytes) {
-        return 43;
+        return Err(Refusal::WrongLengthField);
     }
-    0
+    Ok(())
 }
 
-pub fn read_tcp(bytes: &[u8]) -> TcpRead
+pub fn read_tcp(bytes: &[u8]) -> Result<Tcp, Refusal>
     ensures { result ≡ read_tcp bytes.now }
 {
-    let no = tcp_fault(bytes);
-    if no != 0 {
-        return TcpRead::Refused(no);
-    }
-    TcpRead::Tcp(Tcp {
+    judge_tcp(bytes)?;
+    Ok(Tcp {
         transaction: wire::be16_at(bytes, 0),
         unit: wire::byte_at(bytes, 6),
         function: wire::byte_at(bytes, 7),
@@ -159,41 +150,44 @@ pub fn read_tcp(bytes: &[u8]) -> TcpRead
 pub fn tcp_data(bytes: &[u8]) -> &[u8]
     ensures { result.now ≡ tcp_data bytes.now }
 {
-    wire::front(wire::rest(bytes, 8), wire::minus(bytes.len(), 8))
+    envelope::between(bytes, 8, 0)
 }
 
 // Function and data as one: what stands after the unit.
 pub fn tcp_pdu(bytes: &[u8]) -> &[u8]
     ensures { result.now ≡ tcp_pdu bytes.now }
 {
-    wire::front(wire::rest(bytes, 7), wire::minus(bytes.len(), 7))
+    envelope::between(bytes, 7, 0)
 }
 
-fn put_tcp(transaction: u16, unit: u8, function: u8, data: &[u8], out: &mut [u8])
-    requires { (length «data».now ≤ 252) × (length «data».now + 8 ≤ length out.old) }
-    ensures { out.new ≡ sets out.old 0 (bytes_of (tcp transaction) (message unit function «data».now)) }
-{
-    wire::put_be16(out, 0, transaction);
-    wire::put_be16(out, 2, 0);
-    wire::put_be16(out, 4, (data.len() + 2) as u16);
-    content::put_content(unit, function, data, out, 6);
+#[derive(Clone, Copy)]
+struct InTcp {
+    transaction: u16,
+}
+
+impl Envelope for InTcp {
+    ghost layout = { λ e. tcp e.transaction };
+
+    fn needed(&self, m: &Message) -> usize {
+        m.data.len() + 8
+    }
+
+    fn put(&self, m: &Message, out: &mut [u8]) {
+        wire::put_be16(out, 0, self.transaction);
+        wire::put_be16(out, 2, 0);
+        wire::put_be16(out, 4, (m.data.len() + 2) as u16);
+        m.put(out, 6);
+    }
 }
 
 // The envelope, over the front of out.
-pub fn write_tcp(
-    transaction: u16,
-    unit: u8,
-    function: u8,
-    data: &[u8],
-    out: &mut [u8],
-) -> wire::Written
+pub fn write_tcp(transaction: u16, unit: u8, function: u8, data: &[u8], out: &mut [u8]) -> Written
     ensures { WritesEnvelope (tcp transaction) (message unit function «data».now) out.old result out.new }
 {
-    let n = data.len() + 8;
-    let no = envelope::write_fault(data, n, out);
-    if no != 0 {
-        return wire::Written::Refused(no);
-    }
-    put_tcp(transaction, unit, function, data, out);
-    wire::Written::Length(n)
+    let m = Message {
+        address: unit,
+        function,
+        data,
+    };
+    envelope::write(&InTcp { transaction }, &m, out)
 }

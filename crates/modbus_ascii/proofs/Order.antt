@@ -4,11 +4,11 @@ use mathlib.Core.Path.{refl}
 use mathlib.Core.List.{List}
 use Prim.Native.Nat.{ℕ}
 use Rattle.wire.specs.Refusal.{FirstInOrder}
+use Rattle.wire.specs.Answer.{refuse}
 use Rattle.wire.proofs.Answer.{answer_first}
 use Rattle.modbus.specs.Envelope.{said_by}
 use Rattle.modbus_ascii.specs.Ascii.{ascii, read_rules, found_ascii, read_ascii, told_ascii_read}
-use Rattle.modbus_ascii.specs.declared.AsciiRead.TheVariants.{Refused}
 
 pub ascii_first : (s out : List ℕ) → FirstInOrder (read_rules s out) (told_ascii_read (read_ascii s out)).number
 unfolding read_ascii
-ascii_first s out = answer_first Refused (found_ascii (said_by ascii s)) (λ r. (told_ascii_read r).number) (λ n. refl) (read_rules s out) tt refl
+ascii_first s out = answer_first refuse (found_ascii (said_by ascii s)) (λ r. (told_ascii_read r).number) (λ n. refl) (read_rules s out) tt refl

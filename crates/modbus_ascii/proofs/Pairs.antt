@@ -47,13 +47,6 @@ get_d_of_hex (x ∷ y ∷ cs) (suc k) h =
     get_d_of_hex cs k (omega arith)
     ∙ sym (ap₂ (λ (i j : ℕ). byte_of (get_or (x ∷ y ∷ cs) i 0) (get_or (x ∷ y ∷ cs) j 0)) one two)
 
--- each of digits is one
-pub digit_at : (cs : List ℕ) (i : ℕ) → all_digits cs ≡ true → i < length cs → is_digit (get_or cs i 0) ≡ true
-unfolding all_digits
-digit_at [] i all h = absurd (omega arith)
-digit_at (c ∷ cs) zero all h = (and_both (is_digit c) (all_digits cs) all).0
-digit_at (c ∷ cs) (suc i) all h = digit_at cs i (and_both (is_digit c) (all_digits cs) all).1 (omega arith)
-
 pub same_digits : (xs ys : List ℕ) → xs ≡ ys → all_digits ys ≡ true → all_digits xs ≡ true
 same_digits xs ys e h = ap all_digits e ∙ h
 
@@ -72,7 +65,7 @@ pub is_digit_lem : (d : ℕ) → d < 16 → is_digit (digit d) ≡ true
 is_digit_lem d h = lt-ltb (digit_of (digit d)) 16 (omega (arith, digit_of_digit d h))
 
 pub all_digits_hex : (bs : List ℕ) → Bytes bs → all_digits (hex bs) ≡ true
-unfolding hex all_digits
+unfolding hex
 all_digits_hex [] h = refl
 all_digits_hex (b ∷ bs) h = rw (is_digit_lem (b / 16) (omega (arith, h.0)), is_digit_lem (b % 16) (omega arith)) (all_digits_hex bs h.1)
 
@@ -92,7 +85,7 @@ module _ (h l : ℕ) (hh : h < 256) (hl : l < 256) (dh : is_digit h ≡ true) (d
       ap digit e ∙ digit_digit_of l hl dl
 
 pub hex_of_hex : (cs : List ℕ) → Bytes cs → all_digits cs ≡ true → length cs % 2 ≡ 0 → hex (of_hex cs) ≡ cs
-unfolding hex of_hex all_digits
+unfolding hex of_hex
 hex_of_hex [] hb all even = refl
 hex_of_hex (c ∷ []) hb all even = absurd (omega arith)
 hex_of_hex (h ∷ l ∷ cs) hb all even =

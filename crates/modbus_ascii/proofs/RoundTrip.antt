@@ -2,31 +2,33 @@
 -- Assumes nothing.
 use mathlib.Core.Path.{◌≡◌, refl, sym, ap, ap₂, ◌∙◌, subst}
 use mathlib.Core.Bool.{false, not}
-use mathlib.Core.List.{List, [], ◌∷◌, ◌++◌, append_assoc}
+use mathlib.Core.List.{List, [], ◌∷◌, ◌++◌}
 use Prim.Native.Nat.{ℕ, suc, ◌+◌, ◌*◌, ◌-◌, ◌%◌, ◌<◌, ◌≤◌}
 use native.Mathlib.Omega.{arith}
 use lib.Dec.{eqb}
 use lib.ListN.{length, get_or, take, drop, length-append, take-append-drop, drop_of_length-le}
-use lib.Seq.{take-append_seam, get_or_at, take_at, drop-cons, drop-drop}
+use lib.Seq.{take-append_seam, take_at, drop_at, drop-cons, drop-drop}
 use borrow.Author.Tests.{le-ltb, eq-eqb, eqb-true, not-false, ltb-false}
 use Rattle.checksum.specs.Sums.{sum_from, lrc}
 use Rattle.checksum.proofs.Sums.{lrc_lt, lrc_closes, lrc_only}
 use Rattle.wire.specs.Each.{Bytes}
 use Rattle.wire.specs.Numbers.{over}
 use Rattle.wire.specs.Refusal.{Rule, ◌when◌, first, NoneHolds}
-use Rattle.wire.proofs.Answer.{answered_none, accepted_as}
+use Rattle.std.specs.Prelude.{Ok}
+use Rattle.std.specs.Cmp.Lexicographic.{same_text}
+use Rattle.wire.specs.Writes.{write_output}
+use Rattle.wire.proofs.Answer.{judged_none, accepted_as}
 use Rattle.wire.proofs.Bools.{or_neither, neither_or}
 use Rattle.wire.proofs.Each.{get_d_each, each_append, each_drop, each_take}
-use Rattle.wire.proofs.Refusal.{first_none, none_first, none_both, none_append}
+use Rattle.wire.proofs.Rules.{first_none, none_first, none_both, none_append}
 use Rattle.modbus.specs.Envelope.{Message, message, content_of, plain_of, bytes_of, said_by, no_room}
 use Rattle.modbus.specs.Promise.{Fits, Carries, Finds, OneEnvelope, ReadsBack, WritesAgain}
 use Rattle.modbus.proofs.Fields as fields
 use Rattle.modbus.proofs.Lawful.{Lawful}
 use Rattle.modbus.proofs.Promise.{same_message, one_envelope, reads_back, writes_again}
 use Rattle.modbus_ascii.specs.Hex.{hex, of_hex, all_digits}
-use Rattle.modbus_ascii.specs.Ascii.{ascii, colon, carriage_return, line_feed, inside, bad_marks, bad_characters, bad_lrc, ascii_rules, ascii_data, read_rules, found_ascii, read_ascii, ascii_output, AsciiAnswers, told_ascii_read}
+use Rattle.modbus_ascii.specs.Ascii.{ascii, colon, carriage_return, line_feed, inside, bad_marks, bad_characters, bad_lrc, ascii_rules, ascii_data, read_rules, found_ascii, read_ascii, ascii_output, AsciiAnswers}
 use Rattle.modbus_ascii.specs.declared.Ascii.{Ascii}
-use Rattle.modbus_ascii.specs.declared.AsciiRead.TheVariants.{Ascii as Found, Refused}
 use Rattle.modbus_ascii.proofs.Pairs.{length_hex, length_of_hex, of_hex_bytes, of_hex_hex, all_digits_hex, hex_of_hex}
 use Rattle.modbus_ascii.proofs.Answers.{length_inside}
 
@@ -45,21 +47,10 @@ module _ (p : List ℕ) where
   unfolding inside
   inside_line = take_at (hex p) Ending (length L - 3) (omega (arith, line_length_lem, length_hex p))
 
-  first_end : get_or L (length L - 2) 0 ≡ carriage_return
-  first_end =
-      let at : length (colon ∷ hex p) ≡ length L - 2 = omega (arith, line_length_lem, length_hex p) in
-      get_or_at (colon ∷ hex p) carriage_return (line_feed ∷ []) 0 (length L - 2) at
-
-  seam : length (colon ∷ (hex p ++ (carriage_return ∷ []))) ≡ length L - 1
-  seam = simp length-append (omega (arith, line_length_lem, length_hex p))
-
-  last_end : get_or L (length L - 1) 0 ≡ line_feed
-  last_end =
-      ap (λ (l : List ℕ). get_or l (length L - 1) 0) (ap (λ (l : List ℕ). colon ∷ l) (sym (append_assoc (hex p) (carriage_return ∷ []) (line_feed ∷ []))))
-      ∙ get_or_at (colon ∷ (hex p ++ (carriage_return ∷ []))) line_feed [] 0 (length L - 1) seam
-
   marks_line : bad_marks L ≡ false
-  marks_line = neither_or _ _ (neither_or _ _ refl (ap not (eq-eqb (get_or L (length L - 2) 0) carriage_return first_end))) (ap not (eq-eqb (get_or L (length L - 1) 0) line_feed last_end))
+  marks_line =
+      let at : length (colon ∷ hex p) ≡ length L - 2 = omega (arith, line_length_lem, length_hex p) in
+      rw (drop_at (colon ∷ hex p) Ending (length L - 2) at) refl
 
   chars_line : Bytes p → bad_characters L ≡ false
   chars_line hp =
@@ -83,22 +74,14 @@ module _ (m : Message) (fit : Fits m) where
 
 -- ---- what is read
 -- a list of three or more: its first, what stands between, and its last two
-between : (s : List ℕ) → 3 ≤ length s → get_or s 0 0 ∷ (inside s ++ (get_or s (length s - 2) 0 ∷ get_or s (length s - 1) 0 ∷ [])) ≡ s
+between : (s : List ℕ) → 3 ≤ length s → take 1 s ++ (inside s ++ drop (length s - 2) s) ≡ s
 unfolding inside
 between s h =
     let n = length s - 3 in
-    let first : s ≡ get_or s 0 0 ∷ drop 1 s = drop-cons s 0 0 (omega arith) in
-    let one : length s - 1 ≡ suc (length s - 2) = omega arith in
-    let over : length s ≤ suc (suc (length s - 2)) = omega arith in
-    let last : drop (length s - 2) s ≡ get_or s (length s - 2) 0 ∷ get_or s (length s - 1) 0 ∷ [] =
-    drop-cons s (length s - 2) 0 (omega arith)
-    ∙ ap (λ (l : List ℕ). get_or s (length s - 2) 0 ∷ l) (drop-cons s (suc (length s - 2)) 0 (omega arith))
-    ∙ ap₂ (λ (k : ℕ) (l : List ℕ). get_or s (length s - 2) 0 ∷ get_or s k 0 ∷ l) (sym one) (drop_of_length-le s over) in
     let seam : 1 + n ≡ length s - 2 = omega arith in
-    let rest : drop n (drop 1 s) ≡ drop (length s - 2) s = drop-drop n 1 s ∙ ap (λ (k : ℕ). drop k s) seam in
-    ap (λ (l : List ℕ). get_or s 0 0 ∷ (take n (drop 1 s) ++ l)) (sym last ∙ sym rest)
-    ∙ ap (λ (l : List ℕ). get_or s 0 0 ∷ l) (take-append-drop n (drop 1 s))
-    ∙ sym first
+    ap (λ (l : List ℕ). take 1 s ++ (take n (drop 1 s) ++ l)) (ap (λ (k : ℕ). drop k s) (sym seam) ∙ sym (drop-drop n 1 s))
+    ∙ ap (λ (l : List ℕ). take 1 s ++ l) (take-append-drop n (drop 1 s))
+    ∙ take-append-drop 1 s
 
 module _ (s : List ℕ) (hs : Bytes s) (none : NoneHolds (ascii_rules s)) where
   abbrev Q : List ℕ
@@ -114,16 +97,14 @@ module _ (s : List ℕ) (hs : Bytes s) (none : NoneHolds (ascii_rules s)) where
   line_back : colon ∷ (hex Q ++ Ending) ≡ s
   line_back =
       let marks = or_neither _ _ none.1.1.0 in
-      let ends = or_neither _ _ marks.0 in
+      let start : colon ∷ [] ≡ take 1 s = same_text (colon ∷ []) (take 1 s) (sym (not-false _ marks.0)) in
+      let ends : Ending ≡ drop (length s - 2) s = same_text Ending (drop (length s - 2) s) (sym (not-false _ marks.1)) in
       let chars = or_neither _ _ none.1.1.1.0 in
       let all = not-false (all_digits (inside s)) chars.0 in
       let even = eqb-true (length (inside s) % 2) 0 (not-false (eqb (length (inside s) % 2) 0) chars.1) in
-      let a = eqb-true (get_or s 0 0) colon (not-false (eqb (get_or s 0 0) colon) ends.0) in
-      let b = eqb-true (get_or s (length s - 2) 0) carriage_return (not-false (eqb (get_or s (length s - 2) 0) carriage_return) ends.1) in
-      let c = eqb-true (get_or s (length s - 1) 0) line_feed (not-false (eqb (get_or s (length s - 1) 0) line_feed) marks.1) in
       ap (λ (l : List ℕ). colon ∷ (l ++ Ending)) (hex_of_hex (inside s) inside_bytes all even)
-      ∙ ap (λ (x : ℕ). x ∷ (inside s ++ Ending)) (sym a)
-      ∙ ap₂ (λ (x y : ℕ). get_or s 0 0 ∷ (inside s ++ (x ∷ y ∷ []))) (sym b) (sym c)
+      ∙ ap (λ (l : List ℕ). l ++ (inside s ++ Ending)) start
+      ∙ ap (λ (l : List ℕ). take 1 s ++ (inside s ++ l)) ends
       ∙ between s (omega (arith, nine))
 
   least : 0 + 2 + 1 ≤ length Q
@@ -171,22 +152,20 @@ unfolding read_ascii ascii_output
 ascii_answers s m c out fits =
     let size : length (ascii_data s) ≤ length out = subst (λ (x : Message). length x.«data» ≤ length out) (sym c.says) fits in
     let z = first_none (read_rules s out) (none_both (ascii_rules s) (room s out) c.accepted (le-ltb (length out) (length (ascii_data s)) size, tt)) in
-    (answered_none Refused (found_ascii (said_by ascii s)) _ z ∙ ap found_ascii c.says, answered_none (λ n. out) (over out (ascii_data s)) _ z ∙ ap (λ (x : Message). over out x.«data») c.says)
+    (judged_none _ _ z ∙ ap found_ascii c.says, ap (λ (n : ℕ). write_output n (ascii_data s) out) z ∙ ap (λ (x : Message). over out x.«data») c.says)
 
 -- one call that finds a message is enough: the characters carry it, with the data that the output begins with
-pub ascii_found : (s out : List ℕ) (x : Ascii) → read_ascii s out ≡ Found x
+pub ascii_found : (s out : List ℕ) (x : Ascii) → read_ascii s out ≡ Ok x
     → Carries ascii ascii_rules s (message x.address x.function (take x.length (ascii_output s out)))
 unfolding read_ascii ascii_output over
 ascii_found s out x q =
-    let ok = accepted_as Refused (found_ascii (said_by ascii s)) (λ r. (told_ascii_read r).number) (λ n. refl) (first (read_rules s out)) (Found x) q refl in
-    let same : found_ascii (said_by ascii s) ≡ Found x = ok.1 in
-    let e : ◌≡◌ {A = Ascii} (record { address = (said_by ascii s).address; function = (said_by ascii s).function; length = length (ascii_data s) }) x = cc in
+    let ok = accepted_as (record { address = (said_by ascii s).address; function = (said_by ascii s).function; length = length (ascii_data s) }) (first (read_rules s out)) x q in
     let front : ascii_data s ≡ take x.length (ascii_output s out) =
-    sym (ap₂ (λ (n : ℕ) (l : List ℕ). take n l) (sym (ap (λ (y : Ascii). y.length) e)) (answered_none (λ n. out) (over out (ascii_data s)) _ ok.0)
+    sym (ap₂ (λ (n : ℕ) (l : List ℕ). take n l) (sym (ap (λ (y : Ascii). y.length) ok.1)) (ap (λ (n : ℕ). write_output n (ascii_data s) out) ok.0)
     ∙ take-append_seam (ascii_data s) (drop (length (ascii_data s)) out)) in
     record {
       accepted = (none_append (ascii_rules s) (room s out) (none_first (read_rules s out) tt ok.0)).0;
-      says = same_message (said_by ascii s) (message x.address x.function (take x.length (ascii_output s out))) (ap (λ (y : Ascii). y.address) e) (ap (λ (y : Ascii). y.function) e) front;
+      says = same_message (said_by ascii s) (message x.address x.function (take x.length (ascii_output s out))) (ap (λ (y : Ascii). y.address) ok.1) (ap (λ (y : Ascii). y.function) ok.1) front;
       begins = refl;
     }
 

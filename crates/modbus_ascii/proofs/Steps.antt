@@ -1,44 +1,23 @@
 -- What the loops take in a turn, and the stores of the writers.
 -- Assumes nothing.
 use mathlib.Core.Path.{◌≡◌, refl, sym, ap, ap₂, ◌∙◌}
-use mathlib.Core.Bool.{Bool, true, false, ◌&&◌}
-use mathlib.Core.List.{List, [], ◌∷◌, ◌++◌, append_assoc}
+use mathlib.Core.List.{List, [], ◌∷◌, ◌++◌, append_assoc, append-nil}
 use Prim.Native.Nat.{ℕ, suc, ◌+◌, ◌*◌, ◌/◌, ◌%◌, ◌<◌, ◌≤◌}
 use native.Mathlib.Nat.{zero-add}
 use native.Mathlib.Numerals.{add-one}
 use native.Mathlib.Omega.{arith}
-use lib.ListN.{length, get_or, set, take, drop, drop_of_length-le, length-drop, length-take, length-append, get_or-eq_default}
-use lib.Seq.{sets, drop-cons, get_or-drop, take-suc, take_all, length-take-le}
-use borrow.Author.Tests.{ltb-false}
+use lib.ListN.{length, get_or, set, take, drop, drop_of_length-le, length-drop, length-take, length-append}
+use lib.Seq.{sets, get_or-drop, take-suc, take_all, length-take-le}
 use Rattle.checksum.specs.Sums.{total, sum_from, lrc}
-use Rattle.wire.specs.Digits.{digit, is_digit}
-use Rattle.wire.proofs.Writing.{sets_append, sets_more, sets_then}
-use Rattle.wire.specs.Refusal.{first, pick}
-use Rattle.modbus.specs.Envelope.{message, content_of, bytes_of, too_much, write_rules}
-use Rattle.modbus_ascii.specs.Hex.{hex, of_hex, all_digits}
+use Rattle.wire.specs.Digits.{digit}
+use Rattle.wire.proofs.Writing.{sets_append, sets_more, sets_over, sets_then}
+use Rattle.wire.specs.Numbers.{over}
+use Rattle.modbus.specs.Envelope.{message, content_of, bytes_of}
+use Rattle.modbus_ascii.specs.Hex.{hex, of_hex}
 use Rattle.modbus_ascii.specs.Ascii.{ascii, colon, carriage_return, line_feed}
 use Rattle.modbus_ascii.proofs.Pairs.{length_hex, hex_append, length_of_hex}
 
 -- ---- reading
-and_true : (a : Bool) → (a && true) ≡ a
-and_true true = refl
-and_true false = refl
-
-and_assoc : (a b c : Bool) → ((a && b) && c) ≡ (a && (b && c))
-and_assoc true b c = refl
-and_assoc false b c = refl
-
-pub digits_turn : (s : List ℕ) (i : ℕ) (good : Bool) → i < length s → ((good && is_digit (get_or s i 0)) && all_digits (drop (i + 1) s)) ≡ (good && all_digits (drop i s))
-unfolding all_digits
-digits_turn s i good h = rw (add-one, drop-cons s i 0) (and_assoc good (is_digit (get_or s i 0)) (all_digits (drop (suc i) s)))
-
-pub digits_last : (s : List ℕ) (i : ℕ) (good : Bool) → length s ≤ i → (good && all_digits (drop i s)) ≡ good
-unfolding all_digits
-digits_last s i good h = ap (λ (l : List ℕ). good && all_digits l) (drop_of_length-le s h) ∙ and_true good
-
-pub past_plain : (s : List ℕ) (k : ℕ) → length s / 2 ≤ k → 0 ≡ get_or (of_hex s) k 0
-past_plain s k h = sym (get_or-eq_default (of_hex s) 0 (omega (arith, length_of_hex s)))
-
 pub data_turn : (out s : List ℕ) (i b : ℕ) → i + 2 < length s / 2 → b ≡ get_or (of_hex s) (i + 2) 0
     → set (sets out 0 (take i (drop 2 (of_hex s)))) i b ≡ sets out 0 (take (i + 1) (drop 2 (of_hex s)))
 data_turn out s i b h e =
@@ -47,6 +26,16 @@ data_turn out s i b h e =
     let same : get_or (of_hex s) (i + 2) 0 ≡ get_or D i 0 = sym (get_or-drop 2 (of_hex s) i 0 ∙ ap (λ (k : ℕ). get_or (of_hex s) k 0) two) in
     let within : i < length D = rw length-drop (omega (arith, length_of_hex s)) in
     ap₂ (λ (k x : ℕ). set (sets out 0 (take i D)) k x) (sym (zero-add i)) (e ∙ same) ∙ sets_more out 0 D i within
+
+-- what is stored in the first n places, where no more is, is stored in all
+pub front_stored : (out bs : List ℕ) (n : ℕ) → length bs ≡ n → n ≤ length out → sets (take n out) 0 bs ++ drop n out ≡ sets out 0 bs
+unfolding over
+front_stored out bs n e h =
+    let long : length (take n out) ≡ n = length-take-le n out h in
+    let none : drop (length bs) (take n out) ≡ [] = drop_of_length-le (take n out) (omega arith) in
+    ap (λ (l : List ℕ). l ++ drop n out) (sets_over (take n out) bs (omega arith) ∙ ap (λ (l : List ℕ). bs ++ l) none ∙ append-nil bs)
+    ∙ ap (λ (k : ℕ). bs ++ drop k out) (sym e)
+    ∙ sym (sets_over out bs (omega arith))
 
 -- ---- writing
 pub stored_byte : (out : List ℕ) (at b x y : ℕ) → x ≡ digit (b / 16) → y ≡ digit (b % 16) → set (set out at x) (at + 1) y ≡ sets out at (hex (b ∷ []))
@@ -60,13 +49,6 @@ hex_turn out src at i place h e =
     ap (λ (k : ℕ). sets (sets out at (hex (take i src))) k (hex (get_or src i 0 ∷ []))) (e ∙ ap (λ (k : ℕ). at + k) (sym long))
     ∙ sets_append out at (hex (take i src)) (hex (get_or src i 0 ∷ []))
     ∙ ap (sets out at) (sym (hex_append (take i src) (get_or src i 0 ∷ [])) ∙ ap hex (sym (take-suc src i 0 h) ∙ ap (λ (k : ℕ). take k src) (sym (add-one i))))
-
-pub stored_end : (out : List ℕ) (at b : ℕ) → set (set (sets out at (hex (b ∷ []))) (at + 2) carriage_return) (at + 3) line_feed ≡ sets out at (hex (b ∷ []) ++ (carriage_return ∷ line_feed ∷ []))
-unfolding hex
-stored_end out at b =
-    let two : at + 2 ≡ suc (suc at) = omega arith in
-    let three : at + 3 ≡ suc (suc (suc at)) = omega arith in
-    ap₂ (λ (i j : ℕ). set (set (sets out at (hex (b ∷ []))) i carriage_return) j line_feed) two three
 
 pub sum_content : (a f : ℕ) (d : List ℕ) → sum_from ((a + f) % 256) d ≡ sum_from 0 (content_of (message a f d))
 unfolding total
@@ -98,12 +80,3 @@ at_most_253 d = omega (arith, length-take 253 d)
 
 pub counted_whole : (d : List ℕ) (n : ℕ) → n ≡ 9 + 2 * length (take 253 d) → length d ≤ 252 → n ≡ 9 + 2 * length d
 counted_whole d n en h = en ∙ ap (λ (l : List ℕ). 9 + 2 * length l) (take_all 253 d (omega arith))
-
-pub judged_whole : (a f : ℕ) (d out : List ℕ) (n r : ℕ) → n ≡ 9 + 2 * length (take 253 d) → r ≡ first (write_rules d n out)
-    → r ≡ first (write_rules d (length (bytes_of ascii (message a f d))) out)
-unfolding pick
-judged_whole a f d out n r en e = go (too_much d) refl
-  where
-    go : (b : Bool) → too_much d ≡ b → r ≡ first (write_rules d (length (bytes_of ascii (message a f d))) out)
-    go true q = e ∙ rw q refl
-    go false q = e ∙ ap (λ (k : ℕ). first (write_rules d k out)) (counted_whole d n en (ltb-false 252 (length d) q) ∙ sym (length_ascii a f d))

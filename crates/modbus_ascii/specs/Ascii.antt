@@ -1,16 +1,18 @@
 -- The ASCII envelope. A character is its code.
 -- Assumes nothing.
-use Rattle.std.specs.Prelude.{ℕ, ◌+◌, ◌*◌, ◌-◌, ◌%◌, ◌≤◌, ◌≡◌, Bool, not, ◌||◌, List, [], ◌∷◌, ◌++◌, eqb, length, get_or, take, drop}
+use Rattle.std.specs.Prelude.{ℕ, ◌+◌, ◌*◌, ◌-◌, ◌%◌, ◌≤◌, ◌≡◌, Bool, not, ◌||◌, List, [], ◌∷◌, ◌++◌, nat_eq, eqb, length, take, drop, Result, Ok, Err}
+use Rattle.std.specs.List.{starts_with, ends_with}
 use Rattle.checksum.specs.Sums.{sum_from, lrc}
-use Rattle.wire.specs.Answer.{answered}
+use Rattle.wire.specs.Answer.{answered, refuse}
+use Rattle.wire.specs.Numbered.{number_of}
 use Rattle.wire.specs.Numbers.{over}
 use Rattle.wire.specs.Refusal.{Rule, ◌when◌, first}
 use Rattle.wire.specs.Told.{Told, accepted, refused}
 use Rattle.wire.specs.Writes.{write_output}
 use Rattle.modbus.specs.Envelope.{Message, Envelope, said_by, too_short, too_long, no_room}
 use Rattle.modbus_ascii.specs.Hex.{hex, of_hex, all_digits}
-use Rattle.modbus_ascii.specs.declared.AsciiRead.{AsciiRead}
-use Rattle.modbus_ascii.specs.declared.AsciiRead.TheVariants.{Ascii as Found, Refused}
+use Rattle.modbus_ascii.specs.declared.Ascii.{Ascii}
+use Rattle.wire.specs.declared.refusals.Refusal.{Refusal}
 
 -- colon, carriage return, line feed
 abbrev pub colon : ℕ
@@ -36,7 +38,7 @@ ascii_long s = too_long 513 s
 
 -- 62 colon or end marks
 abbrev pub bad_marks : List ℕ → Bool
-bad_marks s = not (eqb (get_or s 0 0) colon) || not (eqb (get_or s (length s - 2) 0) carriage_return) || not (eqb (get_or s (length s - 1) 0) line_feed)
+bad_marks s = not (starts_with nat_eq s (colon ∷ [])) || not (ends_with nat_eq s (carriage_return ∷ line_feed ∷ []))
 
 -- 63 a character or an odd count
 abbrev pub bad_characters : List ℕ → Bool
@@ -77,11 +79,11 @@ abbrev pub read_rules : List ℕ → List ℕ → List Rule
 read_rules s out = ascii_rules s ++ (16 when no_room (length (ascii_data s)) out ∷ [])
 
 -- the answer to a message that is read, and to any characters; and what the output is then
-abbrev pub found_ascii : Message → AsciiRead
-found_ascii m = Found (record { address = m.address; function = m.function; length = length m.«data» })
+abbrev pub found_ascii : Message → Result Ascii Refusal
+found_ascii m = Ok (record { address = m.address; function = m.function; length = length m.«data» })
 
-unfoldable pub read_ascii : List ℕ → List ℕ → AsciiRead
-read_ascii s out = answered Refused (found_ascii (said_by ascii s)) (first (read_rules s out))
+unfoldable pub read_ascii : List ℕ → List ℕ → Result Ascii Refusal
+read_ascii s out = answered refuse (found_ascii (said_by ascii s)) (first (read_rules s out))
 
 unfoldable pub ascii_output : List ℕ → List ℕ → List ℕ
 ascii_output s out = write_output (first (read_rules s out)) (ascii_data s) out
@@ -91,6 +93,6 @@ abbrev pub AsciiAnswers : List ℕ → Message → Type 0
 AsciiAnswers s m =
     (out : List ℕ) → length m.«data» ≤ length out → (read_ascii s out ≡ found_ascii m) × (ascii_output s out ≡ over out m.«data»)
 
-abbrev pub told_ascii_read : AsciiRead → Told
-told_ascii_read (Found e) = accepted (e.address ∷ e.function ∷ e.length ∷ [])
-told_ascii_read (Refused n) = refused n
+abbrev pub told_ascii_read : Result Ascii Refusal → Told
+told_ascii_read (Ok e) = accepted (e.address ∷ e.function ∷ e.length ∷ [])
+told_ascii_read (Err e) = refused (number_of e)

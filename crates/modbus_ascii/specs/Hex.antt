@@ -1,6 +1,7 @@
 -- Bytes as characters.
 -- Assumes nothing.
-use Rattle.std.specs.Prelude.{ℕ, ◌+◌, ◌*◌, ◌/◌, ◌%◌, Bool, true, ◌&&◌, List, [], ◌∷◌}
+use Rattle.std.specs.Prelude.{ℕ, ◌+◌, ◌*◌, ◌/◌, ◌%◌, Bool, List, [], ◌∷◌}
+use Rattle.std.specs.List.{list_all}
 use Rattle.wire.specs.Digits.{digit, digit_of, is_digit}
 
 -- "two upper-case hexadecimal characters a byte"
@@ -17,6 +18,5 @@ of_hex [] = []
 of_hex (c ∷ []) = []
 of_hex (h ∷ l ∷ cs) = byte_of h l ∷ of_hex cs
 
-unfoldable pub all_digits : List ℕ → Bool
-all_digits [] = true
-all_digits (c ∷ cs) = is_digit c && all_digits cs
+abbrev pub all_digits : List ℕ → Bool
+all_digits cs = list_all is_digit cs

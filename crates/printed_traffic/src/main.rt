@@ -4,143 +4,122 @@
 // and what it says.
 #![tactic(auto)]
 
-use sm160_frame::FrameRead;
-use sm160_read_file::{ReplyRead, RequestRead};
-use sm160_receiver::{Answer, Opening, Receiver};
-use std::io::{Read, Stdin, Stdout};
-use wire::Written;
+use sm160_frame::{part_of, read_frame, write_frame};
+use sm160_read_file::{message_of, name_of, read_reply, read_request};
+use sm160_receiver::{Progress, Receiver};
+use std::io;
+use std::io::{Read, Stdout, Write};
+use wire::{Refusal, front, put_all, rest};
 
-// Whether the bytes were written.
-fn put(to: Stdout, bytes: &[u8]) -> bool {
-    to.write_all(bytes).is_ok()
+fn line(mut to: Stdout, text: &[u8]) -> io::Result<()> {
+    to.write_all(text)?;
+    to.write_all(b"\n")
 }
 
-fn line(to: Stdout, word: &[u8]) {
-    put(to, word);
-    put(to, b"\n");
-}
-
-fn say(to: Stdout, word: &[u8], n: u64) {
-    let mut digits = [0u8; 20];
-    let k = io::decimal(n, &mut digits);
-    put(to, word);
-    put(to, &digits[..k]);
-    put(to, b"\n");
+fn refused(mut to: Stdout, refusal: Refusal) -> io::Result<()> {
+    writeln!(to, "refused {}", refusal.number())
 }
 
 // A byte as text, a point where it is none.
 fn shown(b: u8) -> u8 {
-    if (b' ' <= b) & (b <= b'~') { b } else { b'.' }
-}
-
-fn show_byte(to: Stdout, b: u8) {
-    let mut digits = [0u8; 16];
-    let k = io::hex(b as u64, 2, &mut digits);
-    put(to, &digits[..k]);
-    put(to, b" ");
+    if b.is_ascii_graphic() || b == b' ' {
+        b
+    } else {
+        b'.'
+    }
 }
 
 // Up to 16 bytes: in hexadecimal, then as text.
-fn show_line(to: Stdout, s: &[u8]) {
+fn show_line(mut to: Stdout, s: &[u8]) -> io::Result<()> {
     let mut text = [b' '; 16];
-    let mut i = 0;
-    while i < s.len() {
-        show_byte(to, s[i]);
-        wire::put(&mut text, i, shown(s[i]));
-        i += 1;
+    for (c, b) in text.iter_mut().zip(s) {
+        write!(to, "{b:02x} ")?;
+        *c = shown(*b);
     }
-    put(to, b" ");
-    line(to, wire::front(&text, s.len()));
+    to.write_all(b" ")?;
+    line(to, front(&text, s.len()))
 }
 
 // Bytes, 16 a line.
-fn show(to: Stdout, s: &[u8]) {
-    let mut i = 0;
-    while i < s.len() {
-        show_line(to, wire::front(wire::rest(s, i), 16));
-        i += 16;
+fn show(to: Stdout, s: &[u8]) -> io::Result<()> {
+    for part in s.chunks(16) {
+        show_line(to, part)?;
+    }
+    Ok(())
+}
+
+// A receiver with the buffer that is lent to it. What each call answers is told.
+#[derive(Drop)]
+struct Host<'a> {
+    to: Stdout,
+    state: Receiver,
+    buffer: &'a mut [u8],
+}
+
+impl<'a> Host<'a> {
+    fn tell(&mut self, answer: Result<Progress, Refusal>) -> io::Result<()> {
+        match answer {
+            Ok(Progress::Held(n)) => writeln!(self.to, "held {n}"),
+            Ok(Progress::Complete(n)) => writeln!(self.to, "complete {n}"),
+            Err(refusal) => refused(self.to, refusal),
+        }
+    }
+
+    fn turn(&mut self, frame: &[u8]) -> io::Result<()> {
+        let received = sm160_receiver::receive(self.state, frame, self.buffer);
+        self.state = received.state;
+        self.tell(received.answer)
+    }
+
+    fn turn_rebased(&mut self, frame: &[u8]) -> io::Result<()> {
+        let mut out = [0u8; 252];
+        let n = rebase(frame, &mut out).unwrap_or(0);
+        self.turn(front(&out, n))
+    }
+
+    // The same, with the receiver given by its plain fields.
+    fn turn_plain(&mut self, frame: &[u8]) -> io::Result<()> {
+        let mut out = [0u8; 252];
+        let n = rebase(frame, &mut out).unwrap_or(0);
+        let before = self.state;
+        let received = sm160_receiver::receive_plain(
+            before.session,
+            before.limit,
+            before.under_way,
+            before.count,
+            front(&out, n),
+            self.buffer,
+        );
+        self.state = received.state;
+        self.tell(received.answer)
     }
 }
 
-fn tell(to: Stdout, answer: Answer) {
-    match answer {
-        Answer::Held(n) => say(to, b"held ", n as u64),
-        Answer::Complete(n) => say(to, b"complete ", n as u64),
-        Answer::Refused(n) => say(to, b"refused ", n as u64),
-    }
-}
-
-fn turn(to: Stdout, state: Receiver, frame: &[u8], buffer: &mut [u8]) -> Receiver {
-    let r = sm160_receiver::receive(state, frame, buffer);
-    let answer = r.answer;
-    tell(to, answer);
-    r.state
-}
+// The START's offset in session 2.
+const START_OFFSET: u32 = 73;
 
 // What a host does with a controller's frame: it is read by its fields, the START's offset is taken off, and it is written again.
-fn rebase(frame: &[u8], start: u32, out: &mut [u8]) -> usize {
-    let read = sm160_frame::read_frame(frame);
-    match read {
-        FrameRead::Frame(f) => {
-            let offset = f.offset;
-            if offset < start {
-                return 0;
-            }
-            let written = sm160_frame::write_frame(
-                f.session,
-                offset - start,
-                f.flags,
-                sm160_frame::part_of(frame),
-                out,
-            );
-            match written {
-                Written::Length(n) => n,
-                Written::Refused(n) => 0,
-            }
-        }
-        FrameRead::Refused(n) => 0,
-    }
-}
-
-fn turn_rebased(to: Stdout, state: Receiver, frame: &[u8], buffer: &mut [u8]) -> Receiver {
-    let mut out = [0u8; 252];
-    let n = rebase(frame, 73, &mut out);
-    turn(to, state, wire::front(&out, n), buffer)
-}
-
-// The same, with the receiver given by its plain fields.
-fn turn_plain(to: Stdout, state: Receiver, frame: &[u8], buffer: &mut [u8]) -> Receiver {
-    let mut out = [0u8; 252];
-    let n = rebase(frame, 73, &mut out);
-    let r = sm160_receiver::receive_plain(
-        state.session,
-        state.limit,
-        state.under_way,
-        state.count,
-        wire::front(&out, n),
-        buffer,
-    );
-    let answer = r.answer;
-    tell(to, answer);
-    r.state
+fn rebase(frame: &[u8], out: &mut [u8]) -> Option<usize> {
+    let f = read_frame(frame).ok()?;
+    let offset = f.offset.checked_sub(START_OFFSET)?;
+    write_frame(f.session, offset, f.flags, part_of(frame), out).ok()
 }
 
 // The largest part that the controller and its master agree on: 80 with the header of 12 bytes, and 68 without.
 const AGREED: usize = 68;
 
 // Where it is not opened, a state that each call refuses with 20.
-fn opened(to: Stdout, session: u16, largest: usize) -> Receiver {
-    let opening = sm160_receiver::open(session, largest);
-    match opening {
-        Opening::Ready(state) => state,
-        Opening::Refused(n) => {
-            say(to, b"refused ", n as u64);
-            Receiver {
+fn opened(to: Stdout, session: u16, largest: usize) -> io::Result<Receiver> {
+    match sm160_receiver::open(session, largest) {
+        Ok(state) => Ok(state),
+        Err(refusal) => {
+            refused(to, refusal)?;
+            Ok(Receiver {
                 session,
                 limit: 0,
                 under_way: false,
                 count: 0,
-            }
+            })
         }
     }
 }
@@ -154,217 +133,213 @@ fn at(count: usize) -> Receiver {
     }
 }
 
-// Whether a buffer is as it was lent, with 7 in each byte.
-fn as_lent(buffer: &[u8]) -> bool {
-    let mut i = 0;
-    while i < buffer.len() {
-        if buffer[i] != 7 {
-            return false;
-        }
-        i += 1;
-    }
-    true
-}
-
-fn tell_stored(to: Stdout, buffer: &[u8]) {
-    if as_lent(buffer) {
-        line(to, b"nothing stored");
+// A buffer is lent with 7 in each byte.
+fn tell_stored(to: Stdout, buffer: &[u8]) -> io::Result<()> {
+    if buffer.iter().all(|b| *b == 7) {
+        line(to, b"nothing stored")
     } else {
-        line(to, b"stored");
+        line(to, b"stored")
     }
 }
 
 // Session 1: the agreement on the frame's size, asked for and replied.
-fn agreement(to: Stdout, asked: &[u8], replied: &[u8]) {
-    line(to, b"session 1 as printed");
+fn agreement(to: Stdout, asked: &[u8], replied: &[u8]) -> io::Result<()> {
+    line(to, b"session 1 as printed")?;
     let mut buffer = [7u8; 318];
-    let a = turn(to, opened(to, 1, AGREED), asked, &mut buffer);
-    turn(to, a, replied, &mut buffer);
-    tell_stored(to, &buffer);
+    let mut host = Host {
+        to,
+        state: opened(to, 1, AGREED)?,
+        buffer: &mut buffer,
+    };
+    host.turn(asked)?;
+    host.turn(replied)?;
+    tell_stored(to, &buffer)
 }
 
-// Session 2: the request for a file in two frames, and the four of its reply.
-fn as_printed(to: Stdout, request: &[u8], first: &[u8], second: &[u8], third: &[u8], last: &[u8]) {
-    line(to, b"session 2 as printed");
+// The two frames of session 2's request for a file, and the four of its reply.
+#[derive(Clone, Copy)]
+struct Session<'a> {
+    asking: &'a [u8],
+    asked: &'a [u8],
+    first: &'a [u8],
+    second: &'a [u8],
+    third: &'a [u8],
+    last: &'a [u8],
+}
+
+fn as_printed(to: Stdout, s: Session) -> io::Result<()> {
+    line(to, b"session 2 as printed")?;
     let mut buffer = [7u8; 318];
-    let a = turn(
+    let mut host = Host {
         to,
-        opened(to, 2, AGREED),
-        wire::front(request, 80),
-        &mut buffer,
-    );
-    let b = turn(to, a, wire::rest(request, 80), &mut buffer);
-    let c = turn(to, b, first, &mut buffer);
-    let d = turn(to, c, second, &mut buffer);
-    let e = turn(to, d, third, &mut buffer);
-    turn(to, e, last, &mut buffer);
-    tell_stored(to, &buffer);
+        state: opened(to, 2, AGREED)?,
+        buffer: &mut buffer,
+    };
+    for frame in [s.asking, s.asked, s.first, s.second, s.third, s.last] {
+        host.turn(frame)?;
+    }
+    tell_stored(to, &buffer)
 }
 
 // What the request of two frames asks for.
-fn asked_for(to: Stdout, request: &[u8]) {
+fn asked_for(mut to: Stdout, s: Session) -> io::Result<()> {
     let mut bytes = [0u8; 73];
-    wire::put_all(
-        &mut bytes,
-        0,
-        sm160_frame::part_of(wire::front(request, 80)),
-    );
-    wire::put_all(
-        &mut bytes,
-        68,
-        sm160_frame::part_of(wire::rest(request, 80)),
-    );
-    let read = sm160_read_file::read_request(&bytes);
-    match read {
-        RequestRead::Request { offset, size } => {
-            say(to, b"asks from ", offset);
-            line(to, sm160_read_file::name_of(&bytes));
+    put_all(&mut bytes, 0, part_of(s.asking));
+    put_all(&mut bytes, 68, part_of(s.asked));
+    match read_request(&bytes) {
+        Ok(request) => {
+            writeln!(to, "asks from {}", request.offset)?;
+            line(to, name_of(&bytes))
         }
-        RequestRead::Refused(n) => say(to, b"refused ", n as u64),
+        Err(refusal) => refused(to, refusal),
     }
 }
 
 // What the reply says, and how many bytes it brings.
-fn tell_reply(to: Stdout, bytes: &[u8]) {
-    let read = sm160_read_file::read_reply(bytes);
-    match read {
-        ReplyRead::Reply(status) => {
-            say(to, b"status ", status as u64);
-            line(to, sm160_read_file::message_of(bytes));
-            say(to, b"brings ", sm160_datagram::data_of(bytes).len() as u64);
+fn tell_reply(mut to: Stdout, bytes: &[u8]) -> io::Result<()> {
+    match read_reply(bytes) {
+        Ok(status) => {
+            writeln!(to, "status {status}")?;
+            line(to, message_of(bytes))?;
+            writeln!(to, "brings {}", sm160_datagram::data_of(bytes).len())
         }
-        ReplyRead::Refused(n) => say(to, b"refused ", n as u64),
+        Err(refusal) => refused(to, refusal),
     }
 }
 
-fn counted_from_start(to: Stdout, first: &[u8], second: &[u8], third: &[u8], last: &[u8]) {
+fn counted_from_start(to: Stdout, s: Session) -> io::Result<()> {
     line(
         to,
         b"counted from START, then the last again, then the first alone",
-    );
+    )?;
     let mut buffer = [0u8; 318];
-    let a = turn_rebased(to, opened(to, 2, AGREED), first, &mut buffer);
-    let b = turn_rebased(to, a, second, &mut buffer);
-    let c = turn_rebased(to, b, third, &mut buffer);
-    let d = turn_rebased(to, c, last, &mut buffer);
-    show(to, wire::front(&buffer, 245));
-    tell_reply(to, wire::front(&buffer, 245));
-    let e = turn_rebased(to, d, last, &mut buffer);
-    turn_plain(to, e, first, &mut buffer);
+    let mut host = Host {
+        to,
+        state: opened(to, 2, AGREED)?,
+        buffer: &mut buffer,
+    };
+    for frame in [s.first, s.second, s.third, s.last] {
+        host.turn_rebased(frame)?;
+    }
+    let file = front(host.buffer, 245);
+    show(to, file)?;
+    tell_reply(to, file)?;
+    host.turn_rebased(s.last)?;
+    host.turn_plain(s.first)
 }
 
-fn above_the_limit(to: Stdout, first: &[u8], last: &[u8]) {
+fn above_the_limit(to: Stdout, s: Session) -> io::Result<()> {
     line(
         to,
         b"at a receiver that was opened with 67, and at one with 241",
-    );
+    )?;
     let mut buffer = [0u8; 318];
-    let a = turn_rebased(to, opened(to, 2, AGREED - 1), first, &mut buffer);
-    turn_rebased(to, a, last, &mut buffer);
-    turn_rebased(to, opened(to, 2, 241), first, &mut buffer);
+    let mut host = Host {
+        to,
+        state: opened(to, 2, AGREED - 1)?,
+        buffer: &mut buffer,
+    };
+    host.turn_rebased(s.first)?;
+    host.turn_rebased(s.last)?;
+    host.state = opened(to, 2, 241)?;
+    host.turn_rebased(s.first)
 }
 
-fn from_141(to: Stdout, second: &[u8], third: &[u8], last: &[u8]) {
+fn from_141(to: Stdout, s: Session) -> io::Result<()> {
     line(
         to,
         b"at 141, to the end of the buffer, and the last again; then with one byte less of it",
-    );
+    )?;
     let mut buffer = [0u8; 318];
-    let a = turn(to, at(141), second, &mut buffer);
-    let b = turn(to, a, third, &mut buffer);
-    let c = turn(to, b, last, &mut buffer);
-    turn(to, c, last, &mut buffer);
+    let mut host = Host {
+        to,
+        state: at(141),
+        buffer: &mut buffer,
+    };
+    host.turn(s.second)?;
+    host.turn(s.third)?;
+    host.turn(s.last)?;
+    let complete = host.state;
+    host.turn(s.last)?;
     let mut short = [0u8; 317];
-    turn(to, c, last, &mut short);
+    let mut less = Host {
+        to,
+        state: complete,
+        buffer: &mut short,
+    };
+    less.turn(s.last)
 }
 
-fn start_again(to: Stdout, first: &[u8], second: &[u8]) {
+fn start_again(to: Stdout, s: Session) -> io::Result<()> {
     line(
         to,
         b"START over a file under way, then a refused START, and the file goes on",
-    );
+    )?;
     let mut buffer = [0u8; 318];
-    let a = turn_rebased(to, opened(to, 2, AGREED), first, &mut buffer);
-    let b = turn_rebased(to, a, second, &mut buffer);
-    let c = turn_rebased(to, b, first, &mut buffer);
-    let d = turn(to, c, first, &mut buffer);
-    turn_rebased(to, d, second, &mut buffer);
+    let mut host = Host {
+        to,
+        state: opened(to, 2, AGREED)?,
+        buffer: &mut buffer,
+    };
+    host.turn_rebased(s.first)?;
+    host.turn_rebased(s.second)?;
+    host.turn_rebased(s.first)?;
+    host.turn(s.first)?;
+    host.turn_rebased(s.second)
 }
 
-// The two frames of the request and the four of the reply, one after another.
-fn feed(to: Stdout, request: &[u8], reply: &[u8]) {
-    let first = wire::front(reply, 80);
-    let second = wire::front(wire::rest(reply, 80), 80);
-    let third = wire::front(wire::rest(reply, 160), 80);
-    let last = wire::rest(reply, 240);
-    as_printed(to, request, first, second, third, last);
-    asked_for(to, request);
-    counted_from_start(to, first, second, third, last);
-    above_the_limit(to, first, last);
-    from_141(to, second, third, last);
-    start_again(to, first, second);
-}
-
-fn tell_read(to: Stdout, bytes: &[u8]) {
-    let read = sm160_frame::read_frame(bytes);
-    match read {
-        FrameRead::Frame(f) => say(to, b"offset ", f.offset as u64),
-        FrameRead::Refused(n) => say(to, b"refused ", n as u64),
+fn tell_read(mut to: Stdout, bytes: &[u8]) -> io::Result<()> {
+    match read_frame(bytes) {
+        Ok(f) => writeln!(to, "offset {}", f.offset),
+        Err(refusal) => refused(to, refusal),
     }
 }
 
-fn write_and_read(to: Stdout, part: &[u8]) {
+fn write_and_read(mut to: Stdout, part: &[u8]) -> io::Result<()> {
     let mut out = [0u8; 300];
-    let written = sm160_frame::write_frame(2, 5, sm160_frame::END, part, &mut out);
-    match written {
-        Written::Length(n) => {
-            say(to, b"length ", n as u64);
-            tell_read(to, wire::front(&out, n));
+    match write_frame(2, 5, sm160_frame::END, part, &mut out) {
+        Ok(n) => {
+            writeln!(to, "length {n}")?;
+            tell_read(to, front(&out, n))
         }
-        Written::Refused(n) => say(to, b"refused ", n as u64),
+        Err(refusal) => refused(to, refusal),
     }
 }
 
-fn frames(to: Stdout) {
+fn frames(to: Stdout) -> io::Result<()> {
     let bytes = [7u8; 241];
-    line(to, b"a part of 240, a part of 241, 12 bytes, 11 bytes");
-    write_and_read(to, &bytes[..240]);
-    write_and_read(to, &bytes);
+    line(to, b"a part of 240, a part of 241, 12 bytes, 11 bytes")?;
+    write_and_read(to, &bytes[..240])?;
+    write_and_read(to, &bytes)?;
     let header = [0u8; 12];
-    tell_read(to, &header);
-    tell_read(to, &header[..11]);
+    tell_read(to, &header)?;
+    tell_read(to, &header[..11])
 }
 
-// Fills the buffer as far as there is input. A read that fails ends it.
-fn read_full(from: Stdin, buffer: &mut [u8]) {
-    let mut input = from;
-    let mut n = 0;
-    while n < buffer.len() {
-        match input.read(&mut buffer[n..]) {
-            Ok(more) => {
-                if more == 0 {
-                    break;
-                }
-                n += more;
-            }
-            Err(_) => break,
-        }
-    }
+// The eight frames, one after another.
+fn feed(to: Stdout, all: &[u8]) -> io::Result<()> {
+    agreement(to, front(all, 34), front(rest(all, 34), 43))?;
+    let reply = rest(all, 174);
+    let session = Session {
+        asking: front(rest(all, 77), 80),
+        asked: front(rest(all, 157), 17),
+        first: front(reply, 80),
+        second: front(rest(reply, 80), 80),
+        third: front(rest(reply, 160), 80),
+        last: rest(reply, 240),
+    };
+    as_printed(to, session)?;
+    asked_for(to, session)?;
+    counted_from_start(to, session)?;
+    above_the_limit(to, session)?;
+    from_141(to, session)?;
+    start_again(to, session)?;
+    frames(to)
 }
 
+// Bytes that do not come in stay 0. Where a write fails, what follows it is not told.
 fn main(rt: HostRuntime) {
-    let to = rt.stdout();
     let mut all = [0u8; 467];
-    read_full(rt.stdin(), &mut all);
-    agreement(
-        to,
-        wire::front(&all, 34),
-        wire::front(wire::rest(&all, 34), 43),
-    );
-    feed(
-        to,
-        wire::front(wire::rest(&all, 77), 97),
-        wire::rest(&all, 174),
-    );
-    frames(to);
+    let _ = rt.stdin().read_exact(&mut all);
+    let _ = feed(rt.stdout(), &all);
 }

@@ -26,9 +26,12 @@ not_one mask = not (eqb (channel_count mask) 1)
 abbrev pub not_date : DateTime → Bool
 not_date d = not (is_date d)
 
--- the rules of a body whose one judged field is a mask, or a date
+-- the rules of one judged field: a mask, a mask with exactly one bit, or a date
 abbrev pub mask_faults : ℕ → List Rule
 mask_faults mask = 12 when no_channel mask ∷ []
+
+abbrev pub one_faults : ℕ → List Rule
+one_faults mask = 12 when not_one mask ∷ []
 
 abbrev pub date_faults : DateTime → List Rule
 date_faults d = 13 when not_date d ∷ []

@@ -1,17 +1,25 @@
 // What the bodies of requests and replies share. A body is a head of fixed fields and, in some functions, value bytes after it.
 #![tactic(auto)]
 
-ghost use Rattle.std.specs.Prelude.{◌≡◌, false, ◌*◌};
-ghost use Rattle.wire.specs.Refusal.{first};
+ghost use Rattle.std.specs.Prelude.{ℕ, ◌≡◌, ◌≤◌, false, true, ◌*◌, List, ◌++◌, length, MatchResult};
+ghost use Rattle.wire.specs.Answer.{judged};
+ghost use Rattle.wire.specs.Numbered.{refusal};
+ghost use Rattle.std.proofs.lemmas.List.Edits.{sets};
+ghost use Rattle.wire.specs.Refusal.{Rule, first, numbered};
+ghost use Rattle.wire.specs.Writes.{Writes};
 ghost use Rattle.reading.specs.Mask.{channel_count};
 ghost use Rattle.reading.specs.Values.{uneven, bad_width};
-ghost use Rattle.pulsar_body.specs.Fields.{no_channel, not_one, not_date, mask_faults, date_faults};
-ghost use Rattle.pulsar_body.specs.Body.{other_than, bad_values, bad_length, body_rules, values_rules, too_long, no_room, room_rules};
+ghost use Rattle.pulsar_body.specs.declared.Form.{Form};
+ghost use Rattle.pulsar_body.specs.Fields.{no_channel, not_one, not_date, mask_faults, one_faults, date_faults};
+ghost use Rattle.pulsar_body.specs.Body.{other_than, bad_values, bad_length, judged_body, values_rules, write_rules, too_long, no_room, room_rules};
 
 use date::DateTime;
+use reading::mask::channel_count;
+use reading::values::bad_width;
+use wire::{Refusal, Written};
 
-// The value bytes that follow a head.
-#[derive(Clone, Copy)]
+// The value bytes that follow a head. That none do is one of four rules, and no value that is missing.
+#[derive(Clone, Copy, Debug, PartialEq, Eq)]
 pub enum Values {
     Nothing,
     // One value a channel of a mask.
@@ -20,6 +28,48 @@ pub enum Values {
     Any,
     // 8 bytes.
     Eight,
+}
+
+// What a function's body is made of: a head of so many bytes, and the values that are due after it.
+#[derive(Clone, Copy, Debug, PartialEq, Eq)]
+pub struct Form {
+    pub head: usize,
+    pub values: Values,
+}
+
+// What says how its body is made: a function, and so a request and a reply.
+pub trait Formed {
+    ghost the_form: { Self → Form };
+
+    fn form(self) -> Form
+        ensures { result ≡ the_form self };
+}
+
+// A request or a reply, to be written: the bytes of its head, and the rules of its fields. These may ask the mask of the values that are
+// written with it.
+pub trait Body: Formed + Copy {
+    ghost faults: { Self → ℕ → List Rule };
+
+    ghost head: { Self → List ℕ };
+
+    fn fields_fault(self, mask: u32) -> Result<(), Refusal>
+        ensures { result ≡ judged tt (first (faults self mask)) };
+
+    fn put_head(self, out: &mut [u8])
+        ensures { out.new ≡ sets out.old 0 (head self) };
+
+    ghost faults_numbered: { (x : Self) (mask : ℕ) → numbered (faults x mask) ≡ true };
+
+    ghost head_length: { (x : Self) → length (head x) ≡ (Self.the_form x).head };
+
+    ghost head_few: { (x : Self) → (Self.the_form x).head ≤ 245 };
+}
+
+// The bytes of a value: 4 or 8.
+#[derive(Clone, Copy)]
+struct Width {
+    bytes: usize,
+    ghost good: { bad_width bytes ≡ false },
 }
 
 // ---- the fields
@@ -33,7 +83,7 @@ fn no_channel(mask: u32) -> bool
 pub fn not_one(mask: u32) -> bool
     ensures { result ≡ not_one mask }
 {
-    reading::mask::channel_count(mask) != 1
+    channel_count(mask) != 1
 }
 
 pub fn not_date(d: DateTime) -> bool
@@ -42,22 +92,32 @@ pub fn not_date(d: DateTime) -> bool
     !date::is_date(d)
 }
 
-pub fn mask_fault(mask: u32) -> u8
-    ensures { result ≡ first (mask_faults mask) }
+pub fn mask_fault(mask: u32) -> Result<(), Refusal>
+    ensures { result ≡ judged tt (first (mask_faults mask)) }
 {
     if no_channel(mask) {
-        return 12;
+        return Err(Refusal::BadMask);
     }
-    0
+    Ok(())
 }
 
-pub fn date_fault(d: DateTime) -> u8
-    ensures { result ≡ first (date_faults d) }
+// Of an 06 request and reply.
+pub fn one_fault(mask: u32) -> Result<(), Refusal>
+    ensures { result ≡ judged tt (first (one_faults mask)) }
+{
+    if not_one(mask) {
+        return Err(Refusal::BadMask);
+    }
+    Ok(())
+}
+
+pub fn date_fault(d: DateTime) -> Result<(), Refusal>
+    ensures { result ≡ judged tt (first (date_faults d)) }
 {
     if not_date(d) {
-        return 13;
+        return Err(Refusal::BadDate);
     }
-    0
+    Ok(())
 }
 
 // ---- the lengths
@@ -68,75 +128,80 @@ fn other_than(n: usize, values: &[u8]) -> bool
     values.len() != n
 }
 
-// At most 32 channels of 8 bytes.
-fn channel_bytes(mask: u32, width: usize) -> usize
-    requires { bad_width width ≡ false }
-    ensures { result ≡ channel_count mask * width }
-{
-    reading::mask::channel_count(mask) * width
-}
+impl Width {
+    fn of(bytes: usize) -> Result<Width, Refusal>
+        ensures { MatchResult result (λ w. w.bytes ≡ bytes) (λ e. (e ≡ refusal 1) × (bad_width bytes ≡ true)) }
+    {
+        if bad_width(bytes) {
+            return Err(Refusal::BadArgument);
+        }
+        Ok(Width { bytes })
+    }
 
-fn is_uneven(width: usize, values: &[u8]) -> bool
-    requires { bad_width width ≡ false }
-    ensures { result ≡ uneven width values.now }
-{
-    values.len() % width != 0
-}
+    // At most 32 channels of 8 bytes.
+    fn of_channels(self, mask: u32) -> usize
+        ensures { result ≡ channel_count mask * self.bytes }
+    {
+        channel_count(mask) * self.bytes
+    }
 
-fn bad_values(due: Values, width: usize, mask: u32, values: &[u8]) -> bool
-    requires { bad_width width ≡ false }
-    ensures { result ≡ bad_values due width mask values.now }
-{
-    match due {
-        Values::Nothing => other_than(0, values),
-        Values::Channels => other_than(channel_bytes(mask, width), values),
-        Values::Any => is_uneven(width, values),
-        Values::Eight => other_than(8, values),
+    fn is_uneven(self, values: &[u8]) -> bool
+        ensures { result ≡ uneven self.bytes values.now }
+    {
+        values.len() % self.bytes != 0
     }
 }
 
-fn bad_length(head: usize, due: Values, width: usize, mask: u32, body: &[u8]) -> bool
-    requires { bad_width width ≡ false }
-    ensures { result ≡ bad_length head due width mask body.now }
-{
-    let bad = bad_values(due, width, mask, wire::rest(body, head));
-    (245 < body.len()) | (body.len() < head) | bad
+impl Values {
+    fn are_bad(self, width: Width, mask: u32, values: &[u8]) -> bool
+        ensures { result ≡ bad_values self width.bytes mask values.now }
+    {
+        match self {
+            Values::Nothing => other_than(0, values),
+            Values::Channels => other_than(width.of_channels(mask), values),
+            Values::Any => width.is_uneven(values),
+            Values::Eight => other_than(8, values),
+        }
+    }
 }
 
-// Reading, before the fields: 1, 10, 11.
-pub fn body_fault(
-    unknown: bool,
-    head: usize,
-    due: Values,
+impl Form {
+    fn has_bad_length(self, width: Width, mask: u32, body: &[u8]) -> bool
+        ensures { result ≡ bad_length self width.bytes mask body.now }
+    {
+        let bad = self
+            .values
+            .are_bad(width, mask, wire::rest(body, self.head));
+        (245 < body.len()) | (body.len() < self.head) | bad
+    }
+}
+
+// Reading, before the fields: 1, 10 of no function, 11. Where none holds, the function's fields are to be judged.
+pub fn body_fault<F: Formed + Copy>(
+    function: Option<F>,
     width: usize,
     mask: u32,
     body: &[u8],
-) -> u8
-    ensures { result ≡ first (body_rules unknown head due width mask body.now) }
+) -> Result<F, Refusal>
+    ensures { result ≡ judged_body F.the_form function width mask body.now }
 {
-    if reading::values::bad_width(width) {
-        return 1;
+    let width = Width::of(width)?;
+    let known = function.ok_or(Refusal::UnknownFunction)?;
+    if known.form().has_bad_length(width, mask, body) {
+        return Err(Refusal::BadBody);
     }
-    if unknown {
-        return 10;
-    }
-    if bad_length(head, due, width, mask, body) {
-        return 11;
-    }
-    0
+    Ok(known)
 }
 
 // Writing, before the fields: 1, 11.
-pub fn values_fault(due: Values, width: usize, mask: u32, values: &[u8]) -> u8
-    ensures { result ≡ first (values_rules due width mask values.now) }
+pub fn values_fault(due: Values, width: usize, mask: u32, values: &[u8]) -> Result<(), Refusal>
+    ensures { result ≡ judged tt (first (values_rules due width mask values.now)) }
 {
-    if reading::values::bad_width(width) {
-        return 1;
+    let width = Width::of(width)?;
+    if due.are_bad(width, mask, values) {
+        return Err(Refusal::BadBody);
     }
-    if bad_values(due, width, mask, values) {
-        return 11;
-    }
-    0
+    Ok(())
 }
 
 fn too_long(needed: usize) -> bool
@@ -152,14 +217,34 @@ fn no_room(needed: usize, room: usize) -> bool
 }
 
 // Writing, after the fields: 17, 16, of a body that needs so many bytes and an output of so many.
-pub fn room_fault(needed: usize, room: usize) -> u8
-    ensures { result ≡ first (room_rules needed room) }
+pub fn room_fault(needed: usize, room: usize) -> Result<(), Refusal>
+    ensures { result ≡ judged tt (first (room_rules needed room)) }
 {
     if too_long(needed) {
-        return 17;
+        return Err(Refusal::TooLong);
     }
     if no_room(needed, room) {
-        return 16;
+        return Err(Refusal::NoRoom);
     }
-    0
+    Ok(())
+}
+
+// The body over the front of out: its head, and these value bytes after it.
+pub fn write_body<B: Body>(
+    body: B,
+    width: usize,
+    mask: u32,
+    values: &[u8],
+    out: &mut [u8],
+) -> Written
+    ensures { Writes (first (write_rules (B.the_form body) (B.faults body mask) width mask values.now (length (B.head body ++ values.now)) (length out.old))) (B.head body ++ values.now) out.old result out.new }
+{
+    let form = body.form();
+    values_fault(form.values, width, mask, values)?;
+    body.fields_fault(mask)?;
+    let needed = form.head + values.len();
+    room_fault(needed, out.len())?;
+    body.put_head(out);
+    wire::put_all(out, form.head, values);
+    Ok(needed)
 }

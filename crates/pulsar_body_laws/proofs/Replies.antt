@@ -2,7 +2,7 @@
 -- under the same function: both for every kind, and once over the width. And the order of refusals, of the number that is told.
 -- Assumes nothing.
 use mathlib.Core.Path.{◌≡◌, refl, sym, ap, ap₂, ◌∙◌, subst}
-use mathlib.Core.Bool.{Bool, true, false, cond, not, ◌||◌, true≢false}
+use mathlib.Core.Bool.{Bool, true, false, cond, not, ◌||◌}
 use mathlib.Core.List.{List, [], ◌∷◌, ◌++◌, append_assoc}
 use Prim.Native.Nat.{ℕ, ◌^◌, ◌≤◌, ◌<◌}
 use native.Mathlib.Omega.{arith}
@@ -12,34 +12,31 @@ use borrow.Author.Tests.{eqb-true, not-false}
 use Rattle.wire.specs.Each.{Bytes}
 use Rattle.wire.specs.Numbers.{le, field, over}
 use Rattle.wire.specs.Refusal.{first, NoneHolds, numbered, FirstInOrder}
-use Rattle.wire.specs.Answer.{answered}
-use Rattle.wire.specs.Writes.{Writes, told_written}
-use Rattle.wire.specs.declared.Written.{Written}
-use Rattle.wire.specs.declared.Written.TheVariants.{Length}
+use Rattle.std.specs.Prelude.{Option, None, Some, Result, Ok}
+use Rattle.wire.specs.declared.refusals.Refusal.{Refusal}
+use Rattle.wire.specs.Writes.{Written, Writes, told_written}
 use Rattle.wire.proofs.Bools.{or_neither}
 use Rattle.wire.proofs.Fields.{field_at, field_take, field_append, number_at, number_again}
 use Rattle.wire.proofs.Numbers.{length_le}
-use Rattle.wire.proofs.Refusal.{first_none, none_first, none_append, none_both}
-use Rattle.wire.proofs.Answer.{answered_none, accepted_as, answer_first}
+use Rattle.wire.proofs.Rules.{first_none, none_first, none_append, none_both}
+use Rattle.wire.proofs.Answer.{judged_none}
 use Rattle.wire.proofs.Writes.{written_first}
 use Rattle.date.specs.Date.{date_bytes, date_of, is_date, is_no_date, no_date}
 use Rattle.date.specs.declared.DateTime.{DateTime}
 use Rattle.date.proofs.Laws.{date_writes_again, date_some, no_date_lem, no_date_is, no_date_bytes}
 use Rattle.pulsar_body.specs.Fields.{mask_of, date_in, not_one, not_date}
-use Rattle.pulsar_body.specs.Body.{bad_values, body_rules}
-use Rattle.pulsar_body.proofs.RoundTrip.{numbered_writing, body_back, head_within, body_again, number_kept}
-use Rattle.pulsar_reply.specs.Layout.{function_from, function_of, function_number, head_bytes, archive_bytes, reply_bytes, head_length, values_after, first_of, clock_of, reply_of, values_of}
+use Rattle.pulsar_body.specs.Body.{bad_values, body_rules, reading_answer}
+use Rattle.pulsar_body.proofs.RoundTrip.{numbered_writing, body_back, head_within, body_again, reading_accepts, reading_first, number_kept}
+use Rattle.pulsar_reply.specs.Layout.{function_from, function_of, function_number, head_bytes, archive_bytes, reply_bytes, head_length, values_after, form_of, first_of, clock_of, reply_of, values_of}
 use Rattle.pulsar_reply.specs.Fields.{not_clock, not_zero}
-use Rattle.pulsar_reply.specs.Reading.{is_unknown, field_rules, reply_rules, read_reply, told_reply}
+use Rattle.pulsar_reply.specs.Reading.{field_rules, reply_rules, read_reply, told_reply}
 use Rattle.pulsar_reply.specs.Writing.{field_faults, writing_rules}
 use Rattle.pulsar_reply.specs.declared.ArchiveReply.{ArchiveReply}
 use Rattle.pulsar_reply.specs.declared.Reply.{Reply}
 use Rattle.pulsar_reply.specs.declared.Reply.TheVariants as P
-use Rattle.pulsar_reply.specs.declared.ReplyRead.{ReplyRead}
-use Rattle.pulsar_reply.specs.declared.ReplyRead.TheVariants as R
 use Rattle.pulsar_reply.specs.declared.Function.{Function}
 use Rattle.pulsar_reply.specs.declared.Function.TheVariants as F
-use Rattle.pulsar_reply.proofs.Cases.{length_head, numbered_faults}
+use Rattle.pulsar_reply.specs.Heads.{length_head, numbered_faults}
 use Rattle.pulsar_body_laws.specs.Sized.{SizedReply}
 
 -- ---- what is written reads back
@@ -92,33 +89,33 @@ back (P.Archive a) vs mask h k = archive_back a vs mask h k
 back P.Parameter vs mask h k = record { fields = refl; rules = tt }
 back P.ParameterWritten vs mask h k = record { fields = refl; rules = (refl, tt) }
 
-known_back : (q : Reply) → (function_from (function_number (function_of q)) ≡ function_of q) × (is_unknown (function_of q) ≡ false)
-known_back (P.Error n) = (refl, refl)
-known_back P.Channels = (refl, refl)
-known_back (P.ChannelsWritten m) = (refl, refl)
-known_back (P.Clock d) = (refl, refl)
-known_back P.NoClock = (refl, refl)
-known_back (P.ClockSet status) = (refl, refl)
-known_back (P.Archive a) = (refl, refl)
-known_back P.Parameter = (refl, refl)
-known_back P.ParameterWritten = (refl, refl)
+known_back : (q : Reply) → function_from (function_number (function_of q)) ≡ Some (function_of q)
+known_back (P.Error n) = refl
+known_back P.Channels = refl
+known_back (P.ChannelsWritten m) = refl
+known_back (P.Clock d) = refl
+known_back P.NoClock = refl
+known_back (P.ClockSet status) = refl
+known_back (P.Archive a) = refl
+known_back P.Parameter = refl
+known_back P.ParameterWritten = refl
 
 pub reply_reads_back : (q : Reply) (width mask : ℕ) (vs out out' : List ℕ) (n : ℕ) → SizedReply q
-    → Writes (first (writing_rules q width mask vs (length out))) (reply_bytes q vs) out (Length n) out'
-    → (read_reply (function_number (function_of q)) width mask (take n out') ≡ R.Reply q) × (values_of q (take n out') ≡ vs)
+    → Writes (first (writing_rules q width mask vs (length out))) (reply_bytes q vs) out (Ok n) out'
+    → (read_reply (function_number (function_of q)) width mask (take n out') ≡ Ok q) × (values_of q (take n out') ≡ vs)
 unfolding read_reply
 reply_reads_back q width mask vs out out' n sized w =
     let f = function_of q in
     let s = reply_bytes q vs in
     let known = known_back q in
-    let o = body_back (is_unknown f) (values_after f) width mask mask (head_length f) (head_bytes q) vs (field_faults q mask) out out' n known.1 refl (length_head q) (numbered_faults q mask) w in
+    let o = body_back (form_of f) width mask mask (head_bytes q) vs (field_faults q mask) out out' n refl (length_head q) (numbered_faults q mask) w in
     let b = back q vs mask sized o.3 in
-    let accepts = first_none (reply_rules f width mask s) (none_both (body_rules (is_unknown f) (head_length f) (values_after f) width mask s) (field_rules f mask s) o.2 b.rules) in
-    let reads : read_reply (function_number f) width mask s ≡ R.Reply q =
-    ap (λ (g : Function). answered R.Refused (R.Reply (reply_of g s)) (first (reply_rules g width mask s))) known.0
-    ∙ answered_none R.Refused (R.Reply (reply_of f s)) (first (reply_rules f width mask s)) accepts
-    ∙ ap R.Reply b.fields in
-    subst (λ (x : List ℕ). (read_reply (function_number f) width mask x ≡ R.Reply q) × (values_of q x ≡ vs)) (sym o.0) (reads, o.1)
+    let accepts = first_none (reply_rules (Some f) width mask s) (none_both (body_rules (Some (form_of f)) width mask s) (field_rules f mask s) o.2 b.rules) in
+    let reads : read_reply (function_number f) width mask s ≡ Ok q =
+    ap (λ (g : Option Function). reading_answer form_of (λ (f : Function). field_rules f mask s) (λ (f : Function). reply_of f s) g width mask s) known
+    ∙ judged_none (reply_of f s) (first (reply_rules (Some f) width mask s)) accepts
+    ∙ ap Ok b.fields in
+    subst (λ (x : List ℕ). (read_reply (function_number f) width mask x ≡ Ok q) × (values_of q x ≡ vs)) (sym o.0) (reads, o.1)
 
 -- ---- what is accepted is written again
 
@@ -187,16 +184,15 @@ module _ (s : List ℕ) (bytes : Bytes s) (mask : ℕ) where
         faults = n;
       }
 
-  again : (f : Function) → is_unknown f ≡ false → head_length f ≤ length s → NoneHolds (field_rules f mask s) → Again f (reply_of f s) mask s
-  again F.Error k h n = record { same = refl; head = sym (field_1 s) ∙ front 1 h; faults = tt }
-  again F.Channels k h n = record { same = refl; head = refl; faults = n }
-  again F.ChannelsWritten k h n = record { same = refl; head = number_again s 0 4 bytes ∙ front 4 h; faults = tt }
-  again F.Clock k h n = clock_again h n.0
-  again F.ClockSet k h n = status_again h n
-  again F.Archive k h n = archive_again h n
-  again F.Parameter k h n = record { same = refl; head = refl; faults = tt }
-  again F.ParameterWritten k h n = written_again h n
-  again F.Unknown k h n = absurd (true≢false k)
+  again : (f : Function) → head_length f ≤ length s → NoneHolds (field_rules f mask s) → Again f (reply_of f s) mask s
+  again F.Error h n = record { same = refl; head = sym (field_1 s) ∙ front 1 h; faults = tt }
+  again F.Channels h n = record { same = refl; head = refl; faults = n }
+  again F.ChannelsWritten h n = record { same = refl; head = number_again s 0 4 bytes ∙ front 4 h; faults = tt }
+  again F.Clock h n = clock_again h n.0
+  again F.ClockSet h n = status_again h n
+  again F.Archive h n = archive_again h n
+  again F.Parameter h n = record { same = refl; head = refl; faults = tt }
+  again F.ParameterWritten h n = written_again h n
 
 numbered_reading : (f : Function) (mask : ℕ) (s : List ℕ) → T (numbered (field_rules f mask s))
 numbered_reading F.Error mask s = tt
@@ -207,47 +203,43 @@ numbered_reading F.ClockSet mask s = tt
 numbered_reading F.Archive mask s = tt
 numbered_reading F.Parameter mask s = tt
 numbered_reading F.ParameterWritten mask s = tt
-numbered_reading F.Unknown mask s = tt
 
 -- a known function keeps its number
-kept : (n : ℕ) → is_unknown (function_from n) ≡ false → function_number (function_from n) ≡ n
-kept n =
-    let one = number_kept function_number is_unknown n in
-    one 0x00 F.Error _ refl
-    (one 0x01 F.Channels _ refl
-    (one 0x02 F.ChannelsWritten _ refl
-    (one 0x04 F.Clock _ refl
-    (one 0x05 F.ClockSet _ refl
-    (one 0x06 F.Archive _ refl
-    (one 0x0A F.Parameter _ refl
-    (one 0x0B F.ParameterWritten F.Unknown refl (λ u. absurd (true≢false u)))))))))
+kept : (n : ℕ) (h : Function) → function_from n ≡ Some h → function_number h ≡ n
+kept n h =
+    let one = number_kept function_number n in
+    one 0x00 F.Error h _ refl
+    (one 0x01 F.Channels h _ refl
+    (one 0x02 F.ChannelsWritten h _ refl
+    (one 0x04 F.Clock h _ refl
+    (one 0x05 F.ClockSet h _ refl
+    (one 0x06 F.Archive h _ refl
+    (one 0x0A F.Parameter h _ refl
+    (one 0x0B F.ParameterWritten h None refl (λ u. absurd (cc)))))))))
 
 module _ (number width mask : ℕ) (s : List ℕ) (bytes : Bytes s) (out : List ℕ) (r : Written) (out' : List ℕ) (fits : length s ≤ length out) where
   -- the reply that the body says
-  said_again : first (reply_rules (function_from number) width mask s) ≡ 0 → (q : Reply) → reply_of (function_from number) s ≡ q
+  said_again : (f : Function) → function_from number ≡ Some f → first (reply_rules (Some f) width mask s) ≡ 0 → (q : Reply) → reply_of f s ≡ q
       → Writes (first (writing_rules q width mask (values_of q s) (length out))) (reply_bytes q (values_of q s)) out r out'
-      → (function_number (function_of q) ≡ number) × (r ≡ Length (length s)) × (out' ≡ over out s)
-  said_again none q e w =
-      let f = function_from number in
-      let lengths = body_rules (is_unknown f) (head_length f) (values_after f) width mask s in
-      let parts = none_append lengths (field_rules f mask s) (none_first (reply_rules f width mask s) (numbered_reading f mask s) none) in
-      let whole = head_within (is_unknown f) (head_length f) (values_after f) width mask s parts.0 in
-      let a = subst (λ (p : Reply). Again f p mask s) e (again s bytes mask f parts.0.1.0 whole parts.1) in
+      → (function_number (function_of q) ≡ number) × (r ≡ Ok (length s)) × (out' ≡ over out s)
+  said_again f known none q e w =
+      let lengths = body_rules (Some (form_of f)) width mask s in
+      let parts = none_append lengths (field_rules f mask s) (none_first (reply_rules (Some f) width mask s) (numbered_reading f mask s) none) in
+      let whole = head_within (form_of f) width mask s parts.0 in
+      let a = subst (λ (p : Reply). Again f p mask s) e (again s bytes mask f whole parts.1) in
       let values : values_of q s ≡ drop (head_length f) s = ap (λ (g : Function). drop (head_length g) s) a.same in
       let count = ap (λ (g : Function). bad_values (values_after g) width mask (values_of q s)) (sym a.same) in
-      let o = body_again (is_unknown f) (head_length f) (values_after f) (values_after (function_of q)) width mask mask s (head_bytes q) (values_of q s) (field_faults q mask) out r out' count parts.0 a.head values a.faults fits w in
-      (ap function_number a.same ∙ kept number parts.0.1.0, o.0, o.1)
+      let o = body_again (form_of f) (values_after (function_of q)) width mask mask s (head_bytes q) (values_of q s) (field_faults q mask) out r out' count parts.0 a.head values a.faults fits w in
+      (ap function_number a.same ∙ kept number f known, o.0, o.1)
 
 pub reply_writes_again : (number width mask : ℕ) (s : List ℕ) (q : Reply) (out : List ℕ) (r : Written) (out' : List ℕ) → Bytes s → length s ≤ length out
-    → read_reply number width mask s ≡ R.Reply q
+    → read_reply number width mask s ≡ Ok q
     → Writes (first (writing_rules q width mask (values_of q s) (length out))) (reply_bytes q (values_of q s)) out r out'
-    → (function_number (function_of q) ≡ number) × (r ≡ Length (length s)) × (out' ≡ over out s)
+    → (function_number (function_of q) ≡ number) × (r ≡ Ok (length s)) × (out' ≡ over out s)
 unfolding read_reply
 reply_writes_again number width mask s q out r out' bytes fits e w =
-    let accept = R.Reply (reply_of (function_from number) s) in
-    let ok = accepted_as R.Refused accept (λ (x : ReplyRead). (told_reply x).number) (λ k. refl) (first (reply_rules (function_from number) width mask s)) (R.Reply q) e refl in
-    let same : accept ≡ R.Reply q = ok.1 in
-    said_again number width mask s bytes out r out' fits ok.0 q (cc) w
+    let ok = reading_accepts form_of (λ (f : Function). field_rules f mask s) (λ (f : Function). reply_of f s) width mask s (function_from number) q e in
+    said_again number width mask s bytes out r out' fits ok.0 ok.1 ok.2 q ok.3 w
 
 -- ---- the order of refusals, of what is told
 
@@ -255,8 +247,7 @@ pub read_reply_first : (number width mask : ℕ) (s : List ℕ)
     → FirstInOrder (reply_rules (function_from number) width mask s) (told_reply (read_reply number width mask s)).number
 unfolding read_reply
 read_reply_first number width mask s =
-    let f = function_from number in
-    answer_first R.Refused (R.Reply (reply_of f s)) (λ (x : ReplyRead). (told_reply x).number) (λ n. refl) (reply_rules f width mask s) (numbered_reading f mask s) refl
+    reading_first form_of (λ (f : Function). field_rules f mask s) (λ (f : Function). reply_of f s) width mask s (λ (x : Result Reply Refusal). (told_reply x).number) (λ e. refl) (λ q. refl) (λ f. numbered_reading f mask s) (function_from number)
 
 pub write_reply_first : (q : Reply) (width mask : ℕ) (vs out : List ℕ) (r : Written) (out' : List ℕ)
     → Writes (first (writing_rules q width mask vs (length out))) (reply_bytes q vs) out r out'

@@ -2,7 +2,7 @@
 -- bytes, under the same function: both for every kind, and once over the width. And the order of refusals, of the number that is told.
 -- Assumes nothing.
 use mathlib.Core.Path.{◌≡◌, refl, sym, ap, ap₂, ◌∙◌, subst}
-use mathlib.Core.Bool.{false, true≢false}
+use mathlib.Core.Bool.{false}
 use mathlib.Core.List.{List, [], ◌++◌, append_assoc}
 use Prim.Native.Nat.{ℕ, ◌^◌, ◌≤◌, ◌<◌}
 use native.Mathlib.Omega.{arith}
@@ -12,15 +12,14 @@ use borrow.Author.Tests.{eqb-false, ltb-false}
 use Rattle.wire.specs.Each.{Bytes}
 use Rattle.wire.specs.Numbers.{le, of_le, field, over}
 use Rattle.wire.specs.Refusal.{first, NoneHolds, numbered, FirstInOrder}
-use Rattle.wire.specs.Answer.{answered}
-use Rattle.wire.specs.Writes.{Writes, told_written}
-use Rattle.wire.specs.declared.Written.{Written}
-use Rattle.wire.specs.declared.Written.TheVariants.{Length}
+use Rattle.std.specs.Prelude.{Option, None, Some, Result, Ok}
+use Rattle.wire.specs.declared.refusals.Refusal.{Refusal}
+use Rattle.wire.specs.Writes.{Written, Writes, told_written}
 use Rattle.wire.proofs.Bools.{or_neither}
 use Rattle.wire.proofs.Fields.{field_at, field_take, field_append, number_at, number_again}
 use Rattle.wire.proofs.Numbers.{length_le}
-use Rattle.wire.proofs.Refusal.{first_none, none_first, none_append, none_both}
-use Rattle.wire.proofs.Answer.{answered_none, accepted_as, answer_first}
+use Rattle.wire.proofs.Rules.{first_none, none_first, none_append, none_both}
+use Rattle.wire.proofs.Answer.{judged_none}
 use Rattle.wire.proofs.Writes.{written_first}
 use Rattle.archive.specs.Archive.{type_number, type_from}
 use Rattle.archive.specs.declared.ArchiveKind.{ArchiveKind}
@@ -30,20 +29,18 @@ use Rattle.date.specs.Date.{date_bytes, date_of}
 use Rattle.date.specs.declared.DateTime.{DateTime}
 use Rattle.date.proofs.Laws.{date_writes_again}
 use Rattle.pulsar_body.specs.Fields.{mask_of, date_in, no_channel, not_one, not_date}
-use Rattle.pulsar_body.specs.Body.{bad_values, body_rules}
+use Rattle.pulsar_body.specs.Body.{bad_values, body_rules, reading_answer}
 use Rattle.pulsar_body.specs.declared.Values.TheVariants.{Channels}
-use Rattle.pulsar_body.proofs.RoundTrip.{numbered_writing, body_back, head_within, body_again, number_kept}
-use Rattle.pulsar_request.specs.Layout.{function_from, function_of, function_number, head_bytes, archive_bytes, request_bytes, head_length, values_after, values_mask, type_of, first_of, last_of, index_of, request_of, values_of}
-use Rattle.pulsar_request.specs.Reading.{is_unknown, bad_type, field_rules, request_rules, read_request, told_request}
+use Rattle.pulsar_body.proofs.RoundTrip.{numbered_writing, body_back, head_within, body_again, reading_accepts, reading_first, number_kept}
+use Rattle.pulsar_request.specs.Layout.{function_from, function_of, function_number, head_bytes, archive_bytes, request_bytes, head_length, values_after, form_of, values_mask, type_of, first_of, last_of, index_of, request_of, values_of}
+use Rattle.pulsar_request.specs.Reading.{bad_type, field_rules, request_rules, read_request, told_request}
 use Rattle.pulsar_request.specs.Writing.{field_faults, writing_rules}
 use Rattle.pulsar_request.specs.declared.ArchiveRequest.{ArchiveRequest}
 use Rattle.pulsar_request.specs.declared.Request.{Request}
 use Rattle.pulsar_request.specs.declared.Request.TheVariants as Q
-use Rattle.pulsar_request.specs.declared.RequestRead.{RequestRead}
-use Rattle.pulsar_request.specs.declared.RequestRead.TheVariants as R
 use Rattle.pulsar_request.specs.declared.Function.{Function}
 use Rattle.pulsar_request.specs.declared.Function.TheVariants as F
-use Rattle.pulsar_request.proofs.Cases.{length_head, numbered_faults}
+use Rattle.pulsar_request.specs.Heads.{length_head, numbered_faults}
 use Rattle.pulsar_body_laws.specs.Sized.{SizedRequest}
 
 -- ---- what is written reads back
@@ -114,31 +111,31 @@ back (Q.ReadArchive a) vs h = archive_back a vs h
 back (Q.ReadParameter i) vs h = record { fields = ap Q.ReadParameter (index_back i vs h); rules = λ n. tt; count = λ width values. refl }
 back (Q.WriteParameter i) vs h = record { fields = ap Q.WriteParameter (index_back i vs h); rules = λ n. tt; count = λ width values. refl }
 
-known_back : (q : Request) → (function_from (function_number (function_of q)) ≡ function_of q) × (is_unknown (function_of q) ≡ false)
-known_back (Q.ReadChannels m) = (refl, refl)
-known_back (Q.WriteChannels m) = (refl, refl)
-known_back Q.ReadClock = (refl, refl)
-known_back (Q.SetClock d) = (refl, refl)
-known_back (Q.ReadArchive a) = (refl, refl)
-known_back (Q.ReadParameter i) = (refl, refl)
-known_back (Q.WriteParameter i) = (refl, refl)
+known_back : (q : Request) → function_from (function_number (function_of q)) ≡ Some (function_of q)
+known_back (Q.ReadChannels m) = refl
+known_back (Q.WriteChannels m) = refl
+known_back Q.ReadClock = refl
+known_back (Q.SetClock d) = refl
+known_back (Q.ReadArchive a) = refl
+known_back (Q.ReadParameter i) = refl
+known_back (Q.WriteParameter i) = refl
 
 pub request_reads_back : (q : Request) (width : ℕ) (vs out out' : List ℕ) (n : ℕ) → SizedRequest q
-    → Writes (first (writing_rules q width vs (length out))) (request_bytes q vs) out (Length n) out'
-    → (read_request (function_number (function_of q)) width (take n out') ≡ R.Request q) × (values_of q (take n out') ≡ vs)
+    → Writes (first (writing_rules q width vs (length out))) (request_bytes q vs) out (Ok n) out'
+    → (read_request (function_number (function_of q)) width (take n out') ≡ Ok q) × (values_of q (take n out') ≡ vs)
 unfolding read_request
 request_reads_back q width vs out out' n sized w =
     let f = function_of q in
     let s = request_bytes q vs in
     let b = back q vs sized in
     let known = known_back q in
-    let o = body_back (is_unknown f) (values_after f) width (values_mask q) (mask_of s) (head_length f) (head_bytes q) vs (field_faults q) out out' n known.1 (b.count width vs) (length_head q) (numbered_faults q) w in
-    let accepts = first_none (request_rules f width s) (none_both (body_rules (is_unknown f) (head_length f) (values_after f) width (mask_of s) s) (field_rules f s) o.2 (b.rules o.3)) in
-    let reads : read_request (function_number f) width s ≡ R.Request q =
-    ap (λ (g : Function). answered R.Refused (R.Request (request_of g s)) (first (request_rules g width s))) known.0
-    ∙ answered_none R.Refused (R.Request (request_of f s)) (first (request_rules f width s)) accepts
-    ∙ ap R.Request b.fields in
-    subst (λ (x : List ℕ). (read_request (function_number f) width x ≡ R.Request q) × (values_of q x ≡ vs)) (sym o.0) (reads, o.1)
+    let o = body_back (form_of f) width (values_mask q) (mask_of s) (head_bytes q) vs (field_faults q) out out' n (b.count width vs) (length_head q) (numbered_faults q) w in
+    let accepts = first_none (request_rules (Some f) width s) (none_both (body_rules (Some (form_of f)) width (mask_of s) s) (field_rules f s) o.2 (b.rules o.3)) in
+    let reads : read_request (function_number f) width s ≡ Ok q =
+    ap (λ (g : Option Function). reading_answer form_of (λ (f : Function). field_rules f s) (λ (f : Function). request_of f s) g width (mask_of s) s) known
+    ∙ judged_none (request_of f s) (first (request_rules (Some f) width s)) accepts
+    ∙ ap Ok b.fields in
+    subst (λ (x : List ℕ). (read_request (function_number f) width x ≡ Ok q) × (values_of q x ≡ vs)) (sym o.0) (reads, o.1)
 
 -- ---- what is accepted is written again
 
@@ -179,15 +176,14 @@ module _ (s : List ℕ) (bytes : Bytes s) where
         count = λ width values. refl;
       }
 
-  again : (f : Function) → is_unknown f ≡ false → head_length f ≤ length s → NoneHolds (field_rules f s) → Again f (request_of f s) s
-  again F.ReadChannels k h n = record { same = refl; head = number_front 4 h; faults = n; count = λ width values. refl }
-  again F.WriteChannels k h n = record { same = refl; head = number_front 4 h; faults = n; count = λ width values. refl }
-  again F.ReadClock k h n = record { same = refl; head = refl; faults = tt; count = λ width values. refl }
-  again F.SetClock k h n = record { same = refl; head = date_writes_again s 0 ∙ field_take s 0 6 (omega arith); faults = n; count = λ width values. refl }
-  again F.ReadArchive k h n = archive_again h n
-  again F.ReadParameter k h n = record { same = refl; head = number_front 2 h; faults = tt; count = λ width values. refl }
-  again F.WriteParameter k h n = record { same = refl; head = number_front 2 h; faults = tt; count = λ width values. refl }
-  again F.Unknown k h n = absurd (true≢false k)
+  again : (f : Function) → head_length f ≤ length s → NoneHolds (field_rules f s) → Again f (request_of f s) s
+  again F.ReadChannels h n = record { same = refl; head = number_front 4 h; faults = n; count = λ width values. refl }
+  again F.WriteChannels h n = record { same = refl; head = number_front 4 h; faults = n; count = λ width values. refl }
+  again F.ReadClock h n = record { same = refl; head = refl; faults = tt; count = λ width values. refl }
+  again F.SetClock h n = record { same = refl; head = date_writes_again s 0 ∙ field_take s 0 6 (omega arith); faults = n; count = λ width values. refl }
+  again F.ReadArchive h n = archive_again h n
+  again F.ReadParameter h n = record { same = refl; head = number_front 2 h; faults = tt; count = λ width values. refl }
+  again F.WriteParameter h n = record { same = refl; head = number_front 2 h; faults = tt; count = λ width values. refl }
 
 numbered_reading : (f : Function) (s : List ℕ) → T (numbered (field_rules f s))
 numbered_reading F.ReadChannels s = tt
@@ -197,45 +193,41 @@ numbered_reading F.SetClock s = tt
 numbered_reading F.ReadArchive s = tt
 numbered_reading F.ReadParameter s = tt
 numbered_reading F.WriteParameter s = tt
-numbered_reading F.Unknown s = tt
 
 -- a known function keeps its number
-kept : (n : ℕ) → is_unknown (function_from n) ≡ false → function_number (function_from n) ≡ n
-kept n =
-    let one = number_kept function_number is_unknown n in
-    one 0x01 F.ReadChannels _ refl
-    (one 0x02 F.WriteChannels _ refl
-    (one 0x04 F.ReadClock _ refl
-    (one 0x05 F.SetClock _ refl
-    (one 0x06 F.ReadArchive _ refl
-    (one 0x0A F.ReadParameter _ refl
-    (one 0x0B F.WriteParameter F.Unknown refl (λ u. absurd (true≢false u))))))))
+kept : (n : ℕ) (h : Function) → function_from n ≡ Some h → function_number h ≡ n
+kept n h =
+    let one = number_kept function_number n in
+    one 0x01 F.ReadChannels h _ refl
+    (one 0x02 F.WriteChannels h _ refl
+    (one 0x04 F.ReadClock h _ refl
+    (one 0x05 F.SetClock h _ refl
+    (one 0x06 F.ReadArchive h _ refl
+    (one 0x0A F.ReadParameter h _ refl
+    (one 0x0B F.WriteParameter h None refl (λ u. absurd (cc))))))))
 
 module _ (number width : ℕ) (s : List ℕ) (bytes : Bytes s) (out : List ℕ) (r : Written) (out' : List ℕ) (fits : length s ≤ length out) where
   -- the request that the body says
-  said_again : first (request_rules (function_from number) width s) ≡ 0 → (q : Request) → request_of (function_from number) s ≡ q
+  said_again : (f : Function) → function_from number ≡ Some f → first (request_rules (Some f) width s) ≡ 0 → (q : Request) → request_of f s ≡ q
       → Writes (first (writing_rules q width (values_of q s) (length out))) (request_bytes q (values_of q s)) out r out'
-      → (function_number (function_of q) ≡ number) × (r ≡ Length (length s)) × (out' ≡ over out s)
-  said_again none q e w =
-      let f = function_from number in
-      let lengths = body_rules (is_unknown f) (head_length f) (values_after f) width (mask_of s) s in
-      let parts = none_append lengths (field_rules f s) (none_first (request_rules f width s) (numbered_reading f s) none) in
-      let whole = head_within (is_unknown f) (head_length f) (values_after f) width (mask_of s) s parts.0 in
-      let a = subst (λ (p : Request). Again f p s) e (again s bytes f parts.0.1.0 whole parts.1) in
+      → (function_number (function_of q) ≡ number) × (r ≡ Ok (length s)) × (out' ≡ over out s)
+  said_again f known none q e w =
+      let lengths = body_rules (Some (form_of f)) width (mask_of s) s in
+      let parts = none_append lengths (field_rules f s) (none_first (request_rules (Some f) width s) (numbered_reading f s) none) in
+      let whole = head_within (form_of f) width (mask_of s) s parts.0 in
+      let a = subst (λ (p : Request). Again f p s) e (again s bytes f whole parts.1) in
       let values : values_of q s ≡ drop (head_length f) s = ap (λ (g : Function). drop (head_length g) s) a.same in
-      let o = body_again (is_unknown f) (head_length f) (values_after f) (values_after (function_of q)) width (values_mask q) (mask_of s) s (head_bytes q) (values_of q s) (field_faults q) out r out' (a.count width (values_of q s)) parts.0 a.head values a.faults fits w in
-      (ap function_number a.same ∙ kept number parts.0.1.0, o.0, o.1)
+      let o = body_again (form_of f) (values_after (function_of q)) width (values_mask q) (mask_of s) s (head_bytes q) (values_of q s) (field_faults q) out r out' (a.count width (values_of q s)) parts.0 a.head values a.faults fits w in
+      (ap function_number a.same ∙ kept number f known, o.0, o.1)
 
 pub request_writes_again : (number width : ℕ) (s : List ℕ) (q : Request) (out : List ℕ) (r : Written) (out' : List ℕ) → Bytes s → length s ≤ length out
-    → read_request number width s ≡ R.Request q
+    → read_request number width s ≡ Ok q
     → Writes (first (writing_rules q width (values_of q s) (length out))) (request_bytes q (values_of q s)) out r out'
-    → (function_number (function_of q) ≡ number) × (r ≡ Length (length s)) × (out' ≡ over out s)
+    → (function_number (function_of q) ≡ number) × (r ≡ Ok (length s)) × (out' ≡ over out s)
 unfolding read_request
 request_writes_again number width s q out r out' bytes fits e w =
-    let accept = R.Request (request_of (function_from number) s) in
-    let ok = accepted_as R.Refused accept (λ (x : RequestRead). (told_request x).number) (λ k. refl) (first (request_rules (function_from number) width s)) (R.Request q) e refl in
-    let same : accept ≡ R.Request q = ok.1 in
-    said_again number width s bytes out r out' fits ok.0 q (cc) w
+    let ok = reading_accepts form_of (λ (f : Function). field_rules f s) (λ (f : Function). request_of f s) width (mask_of s) s (function_from number) q e in
+    said_again number width s bytes out r out' fits ok.0 ok.1 ok.2 q ok.3 w
 
 -- ---- the order of refusals, of what is told
 
@@ -243,8 +235,7 @@ pub read_request_first : (number width : ℕ) (s : List ℕ)
     → FirstInOrder (request_rules (function_from number) width s) (told_request (read_request number width s)).number
 unfolding read_request
 read_request_first number width s =
-    let f = function_from number in
-    answer_first R.Refused (R.Request (request_of f s)) (λ (x : RequestRead). (told_request x).number) (λ n. refl) (request_rules f width s) (numbered_reading f s) refl
+    reading_first form_of (λ (f : Function). field_rules f s) (λ (f : Function). request_of f s) width (mask_of s) s (λ (x : Result Request Refusal). (told_request x).number) (λ e. refl) (λ q. refl) (λ f. numbered_reading f s) (function_from number)
 
 pub write_request_first : (q : Request) (width : ℕ) (vs out : List ℕ) (r : Written) (out' : List ℕ)
     → Writes (first (writing_rules q width vs (length out))) (request_bytes q vs) out r out'

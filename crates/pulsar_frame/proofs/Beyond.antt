@@ -15,7 +15,7 @@ use Rattle.wire.specs.Refusal.{pick, first}
 use Rattle.pulsar_frame.specs.Layout.{function_of, len_of, covered_of}
 use Rattle.pulsar_frame.specs.Reading.{too_short, bad_length, on_its_way, missing, meter_rules, master_rules, frame_of, refusal, read_answer, read_at_meter, read_at_master}
 use Rattle.pulsar_frame.specs.declared.Frame.{Frame}
-use Rattle.pulsar_frame.specs.declared.FrameRead.TheVariants.{Frame as Found}
+use Rattle.std.specs.Prelude.{Ok, Err}
 
 -- a field within the first n bytes
 field_front : (s : List ℕ) (n at w : ℕ) → at + w ≤ n → field (take n s) at w ≡ field s at w
@@ -70,7 +70,7 @@ module _ (s : List ℕ) (least : 10 ≤ len_of s) (most : len_of s ≤ length s)
 
   same_answer : (n m : ℕ) → n ≡ m → read_answer Front n ≡ read_answer s m
   same_answer n m e =
-      ap (read_answer Front) e ∙ ap₂ (λ (k : ℕ) (fr : Frame). answered (refusal k) (Found fr) m) same_missing same_frame
+      ap (read_answer Front) e ∙ ap₂ (λ (k : ℕ) (fr : Frame). answered (λ n. Err (refusal k n)) (Ok fr) m) same_missing same_frame
 
   same_at_meter : (own : ℕ) → first (meter_rules own Front) ≡ first (meter_rules own s)
   same_at_meter own = cc (same_short, same_address, same_length, same_on_its_way, same_crc, same_covered, same_function)

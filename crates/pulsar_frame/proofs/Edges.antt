@@ -2,6 +2,7 @@
 -- Assumes nothing.
 use mathlib.Core.Path.{refl}
 use Rattle.checksum.specs.Crc.{remainder, crc_bits}
+use Rattle.wire.specs.Numbered.{refusal}
 use Rattle.wire.specs.Numbers.{field, digits, number, le, of_le, bcd, of_bcd, is_bcd}
 use Rattle.wire.specs.Refusal.{pick}
 use Rattle.wire.specs.Told.{AllHold}
@@ -10,7 +11,7 @@ use Rattle.pulsar_frame.specs.Reading.{read_at_meter}
 use Rattle.pulsar_frame.specs.Edges.{frame_edges, frame_beside}
 
 pub frame_edges_lem : AllHold frame_edges
-unfolding read_at_meter remainder crc_bits field is_bcd of_bcd of_le number pick
+unfolding read_at_meter refusal remainder crc_bits field is_bcd of_bcd of_le number pick
 frame_edges_lem = (refl, (refl, (refl, (refl, (refl, tt)))))
 
 pub frame_beside_lem : AllHold frame_beside

@@ -8,44 +8,67 @@ use native.Mathlib.Omega.{arith}
 use lib.Dec.{eqb}
 use lib.ListN.{length, take, drop, length-append, get_or-append}
 use borrow.Author.Tests.{eqb-true, eqb-false, ne_eqb, lt-ltb, ltb-true, ltb-false}
+use Rattle.std.specs.Prelude.{Result, Err, cond}
+use Rattle.wire.specs.Answer.{judged}
+use Rattle.wire.specs.Numbered.{number_of, with_number, refusals, refusal as by_number}
 use Rattle.wire.specs.Refusal.{Rule, ◌when◌, pick, first, NoneHolds}
-use Rattle.wire.proofs.Answer.{answers_refused, answers_accepted}
-use Rattle.wire.proofs.Refusal.{first_skips}
+use Rattle.wire.proofs.Rules.{first_skips}
+use Rattle.wire.specs.declared.refusals.Refusal.{Refusal}
+use Rattle.wire.specs.declared.refusals.Refusal.TheVariants.{NobodyDue, OnItsWay}
 use Rattle.pulsar_frame.specs.Layout.{len_of}
-use Rattle.pulsar_frame.specs.Reading.{too_short, on_its_way, missing, meter_rules, master_rules, frame_of, refused_as, refusal, read_answer, read_at_meter, read_at_master, told_frame_read}
+use Rattle.pulsar_frame.specs.Reading.{too_short, on_its_way, missing, meter_rules, master_rules, refused_as, refusal, read_answer, read_at_meter, read_at_master, told_frame_read}
 use Rattle.pulsar_frame.specs.Promise.{TellsMissing}
 use Rattle.pulsar_frame.specs.declared.Frame.{Frame}
-use Rattle.pulsar_frame.specs.declared.FrameRead.{FrameRead}
-use Rattle.pulsar_frame.specs.declared.FrameRead.TheVariants.{Frame as Found, Missing, Refused}
+use Rattle.pulsar_frame.specs.declared.Fault.{Fault}
+use Rattle.pulsar_frame.specs.declared.Fault.TheVariants.{Missing, Refused}
 
 -- a refusal tells its number
-pub refusal_tells : (lack n : ℕ) → (told_frame_read (refusal lack n)).number ≡ n
+pub refusal_tells : (lack n : ℕ) → (told_frame_read (Err (refusal lack n))).number ≡ number_of (by_number n)
+unfolding by_number
 refusal_tells lack n = go (eqb n 9) refl
   where
-    go : (t : Bool) → eqb n 9 ≡ t → (told_frame_read (refused_as t lack n)).number ≡ n
-    go true e = sym (eqb-true n 9 e)
+    go : (t : Bool) → eqb n 9 ≡ t → (told_frame_read (Err (refused_as t lack n))).number ≡ number_of (by_number n)
+    go true e = sym (ap (λ (k : ℕ). number_of (by_number k)) (eqb-true n 9 e))
     go false e = refl
 
--- all but 9 are told alone
-pub refused_alone : (lack n : ℕ) → (n ≡ 9 → ⊥) → Refused n ≡ refusal lack n
-refused_alone lack n other = sym (ap (λ (b : Bool). refused_as b lack n) (ne_eqb n 9 other))
+-- OnItsWay is the refusal 9, and no other number's
+its_number : (t : Bool) (n : ℕ) (r last : Refusal) → eqb (number_of r) n ≡ t → (OnItsWay ≡ last → n ≡ 9) → OnItsWay ≡ cond t r last → n ≡ 9
+its_number true n r last e more is = sym (eqb-true (number_of r) n e) ∙ sym (ap number_of is)
+its_number false n r last e more is = more is
 
--- for the readers: r is what the judge of a side answered, n the number of the side's first rule
-module _ (s : List ℕ) (r n : ℕ) (e : r ≡ n) where
-  pub refuses : (a : FrameRead) → a ≡ refusal (missing s) r → (r ≡ 0 → ⊥) → a ≡ read_answer s n
-  refuses a ea some = ea ∙ answers_refused (refusal (missing s)) (Found (frame_of s)) r n e some
+nine_of : (n : ℕ) (last : Refusal) (rs : List Refusal) → (OnItsWay ≡ last → n ≡ 9) → OnItsWay ≡ with_number n last rs → n ≡ 9
+nine_of n last [] other e = other e
+nine_of n last (r ∷ rs) other e = its_number (eqb (number_of r) n) n r (with_number n last rs) refl (nine_of n last rs other) e
 
-  pub finds : (fr : Frame) → fr ≡ frame_of s → r ≡ 0 → Found fr ≡ read_answer s n
-  finds fr ef none = answers_accepted (refusal (missing s)) (Found (frame_of s)) r n (Found fr) e none (ap Found ef)
+-- for the code: what is told of a refusal
+pub lacks_some : (lack n : ℕ) → OnItsWay ≡ by_number n → Missing lack ≡ refusal lack n
+unfolding by_number
+lacks_some lack n e = sym (ap (refusal lack) (nine_of n NobodyDue refusals (λ q. absurd (cc)) e))
+
+pub refused_alone : (why : Refusal) (lack n : ℕ) → (why ≡ OnItsWay → ⊥) → why ≡ by_number n → Refused why ≡ refusal lack n
+unfolding by_number
+refused_alone why lack n other e =
+    let not_nine = λ (z : n ≡ 9). other (e ∙ ap by_number z) in
+    ap Refused e ∙ sym (ap (λ (b : Bool). refused_as b lack n) (ne_eqb n 9 not_nine))
+
+-- and what a side answers that found one, n the number of its first rule
+pub sends_back : (s : List ℕ) (why : Refusal) (f : Fault) (n : ℕ) → ◌≡◌ {A = Result Unit Refusal} (Err why) (judged tt n)
+    → ((k : ℕ) → why ≡ by_number k → f ≡ refusal (missing s) k) → Err f ≡ read_answer s n
+sends_back s why f zero j says = absurd (cc)
+sends_back s why f (suc n) j says = ap Err (says (suc n) (cc))
 
 -- an answer that tells a count has refusal 9, and the count is that of the bytes
-told_nine : (s : List ℕ) (n k : ℕ) → read_answer s n ≡ Missing k → n ≡ 9
-told_nine s zero k e = absurd (omega (arith, ap (λ (r : FrameRead). (told_frame_read r).number) e))
-told_nine s (suc n) k e = sym (refusal_tells (missing s) (suc n)) ∙ ap (λ (r : FrameRead). (told_frame_read r).number) e
+told_nine : (s : List ℕ) (n k : ℕ) → read_answer s n ≡ Err (Missing k) → n ≡ 9
+told_nine s zero k e = absurd (cc)
+told_nine s (suc n) k e = go (eqb (suc n) 9) refl e
+  where
+    go : (t : Bool) → eqb (suc n) 9 ≡ t → ◌≡◌ {A = Result Frame Fault} (Err (refused_as t (missing s) (suc n))) (Err (Missing k)) → suc n ≡ 9
+    go true q i = eqb-true (suc n) 9 q
+    go false q i = absurd (cc)
 
-told_count : (s : List ℕ) (n k : ℕ) → n ≡ 9 → read_answer s n ≡ Missing k → missing s ≡ k
+told_count : (s : List ℕ) (n k : ℕ) → n ≡ 9 → read_answer s n ≡ Err (Missing k) → missing s ≡ k
 told_count s n k nine e =
-    let same : Missing (missing s) ≡ Missing k = ap (read_answer s) (sym nine) ∙ e in
+    let same : ◌≡◌ {A = Result Frame Fault} (Err (Missing (missing s))) (Err (Missing k)) = ap (read_answer s) (sym nine) ∙ e in
     cc
 
 -- ---- bytes lack exactly where row 2 does not hold and row 9 does
@@ -91,7 +114,7 @@ never : (rs : List Rule) → Others rs → first rs ≡ 9 → ⊥
 never rs o e = omega (arith, (past rs [] o (ap first (append-nil rs) ∙ e)).1)
 
 module _ (s : List ℕ) (before after : List Rule) (o : Others before) (p : Others after) (long : NoneHolds before → too_short s ≡ false) where
-  abbrev Answer : FrameRead
+  abbrev Answer : Result Frame Fault
   Answer = read_answer s (first (before ++ ((9 when on_its_way s) ∷ after)))
 
   holds : (b : Bool) → first ((9 when b) ∷ after) ≡ 9 → b ≡ true
@@ -99,13 +122,13 @@ module _ (s : List ℕ) (before after : List Rule) (o : Others before) (p : Othe
   holds true e = refl
   holds false e = absurd (never after p e)
 
-  told_where : NoneHolds before → 0 < missing s → Answer ≡ Missing (missing s)
+  told_where : NoneHolds before → 0 < missing s → Answer ≡ Err (Missing (missing s))
   unfolding pick
   told_where none h =
       ap (read_answer s)
       (first_skips before ((9 when on_its_way s) ∷ after) none ∙ ap (λ (b : Bool). pick b 9 (first after)) (lacks s h))
 
-  only_where : (k : ℕ) → Answer ≡ Missing k → NoneHolds before × (k ≡ missing s) × (0 < k)
+  only_where : (k : ℕ) → Answer ≡ Err (Missing k) → NoneHolds before × (k ≡ missing s) × (0 < k)
   only_where k e =
       let n = first (before ++ ((9 when on_its_way s) ∷ after)) in
       let nine = told_nine s n k e in

@@ -1,67 +1,49 @@
 -- What the readers accept: a frame that was written, and what they have found of bytes that they accept.
 -- Assumes nothing.
 use mathlib.Core.Path.{◌≡◌, refl, sym, ap, ◌∙◌}
-use mathlib.Core.Bool.{Bool, true, false, not, ◌&&◌, ◌||◌, true≢false}
+use mathlib.Core.Bool.{Bool, false, not, ◌&&◌, ◌||◌}
 use mathlib.Core.List.{List, ◌++◌}
 use mathlib.Core.Logic.{◌⊎◌, ⊎_elim}
-use Prim.Native.Nat.{ℕ, ◌+◌, ◌≤◌}
+use Prim.Native.Nat.{ℕ, zero, suc, ◌+◌, ◌≤◌}
 use lib.Dec.{eqb}
 use lib.ListN.{length}
-use borrow.Author.Tests.{eq-eqb, ne_eqb, eqb-true, eqb-false}
+use borrow.Author.Tests.{eq-eqb, ne_eqb}
+use native.Mathlib.Omega.{arith}
+use Rattle.std.specs.Prelude.{Result, Ok}
+use Rattle.std.proofs.lemmas.Bool.Decides.{nat_tests}
 use Rattle.wire.specs.Refusal.{first, NoneHolds}
-use Rattle.wire.proofs.Answer.{answered_none, accepted_as}
-use Rattle.wire.proofs.Refusal.{first_none, none_first}
+use Rattle.wire.proofs.Rules.{first_none, none_first}
 use Rattle.pulsar_frame.specs.Layout.{frame_bytes, address_of, function_of, id_of}
-use Rattle.pulsar_frame.specs.Reading.{bad_own, bad_asked, too_short, not_bcd, bad_length, on_its_way, bad_crc, not_mine, not_asked, no_function, other_function, other_id, meter_rules, master_rules, missing, frame_of, refusal, read_answer, read_at_meter, read_at_master, told_frame_read}
+use Rattle.pulsar_frame.specs.Reading.{bad_own, bad_asked, too_short, not_bcd, bad_length, on_its_way, bad_crc, not_mine, not_asked, no_function, other_function, other_id, meter_rules, master_rules, frame_of, read_answer, read_at_meter, read_at_master}
 use Rattle.pulsar_frame.specs.Promise.{Typed}
 use Rattle.pulsar_frame.specs.declared.Frame.{Frame}
-use Rattle.pulsar_frame.specs.declared.FrameRead.{FrameRead}
-use Rattle.pulsar_frame.specs.declared.FrameRead.TheVariants.{Frame as Found}
-use Rattle.pulsar_frame.proofs.OnItsWay.{refusal_tells}
+use Rattle.pulsar_frame.specs.declared.Fault.{Fault}
 use Rattle.pulsar_frame.proofs.Parts.{written_function, written_len, written_bcd, written_address, written_id, written_crc, written_long, written_length, written_whole}
 
 -- ---- tests, from facts and back
-or_left : (x y : Bool) → x ≡ true → not (x || y) ≡ false
-or_left x y e = rw e
-
-or_right : (x y : Bool) → y ≡ true → not (x || y) ≡ false
-or_right true y e = refl
-or_right false y e = rw e
-
 one_of : (x a b : ℕ) → (x ≡ a) ⊎ (x ≡ b) → not (eqb x a || eqb x b) ≡ false
-one_of x a b = ⊎_elim (λ e. or_left (eqb x a) (eqb x b) (eq-eqb x a e)) (λ e. or_right (eqb x a) (eqb x b) (eq-eqb x b e))
+one_of x a b = ⊎_elim (λ e. grind (arith, nat_tests)) (λ e. grind (arith, nat_tests))
 
 -- the address of a reply, at the master that asked
 abbrev other_address : ℕ → ℕ → Bool
 other_address asked a = not (not (eqb asked 0) && eqb a asked || eqb asked 0 && not (eqb a 0))
 
 expected : (asked a : ℕ) → (a ≡ 0 → ⊥) → (a ≡ asked) ⊎ (asked ≡ 0) → other_address asked a ≡ false
-expected asked a pos =
-    ⊎_elim
-    (λ q. simp (ne_eqb asked 0 (λ z. pos (q ∙ z)), eq-eqb a asked q))
-    (λ q. simp (eq-eqb asked 0 q, ne_eqb a 0 pos))
+expected asked a pos = ⊎_elim (λ q. grind (arith, nat_tests)) (λ q. grind (arith, nat_tests))
 
 -- a reply that bears 0 is not it
-not_zero_lem : (x y z : Bool) → not (not x && y || x && not z) ≡ false → z ≡ true → (x ≡ false) × (y ≡ true)
-not_zero_lem true y true e t = absurd (true≢false e)
-not_zero_lem true y false e t = absurd (true≢false (sym t))
-not_zero_lem false true z e t = (refl, refl)
-not_zero_lem false false z e t = absurd (true≢false e)
-
 bears_not : (asked a : ℕ) → other_address asked a ≡ false → a ≡ 0 → ⊥
-bears_not asked a e z =
-    let p = not_zero_lem (eqb asked 0) (eqb a asked) (eqb a 0) e (eq-eqb a 0 z) in
-    eqb-false asked 0 p.0 (sym (eqb-true a asked p.1) ∙ z)
+bears_not asked a e z = grind (arith, nat_tests)
 
 -- ---- a frame that was written, with anything after it, is accepted
 module _ (a f id : ℕ) (p rest : List ℕ) (typed : Typed f id p) (small : length p ≤ 245) (fits : a ≤ 99999999) where
   abbrev pub S : List ℕ
   S = frame_bytes a f id p ++ rest
 
-  abbrev pub Fields : FrameRead
-  Fields = Found (record { address = a; function = f; id = id; len = length p + 10 })
+  abbrev pub Fields : Result Frame Fault
+  Fields = Ok (record { address = a; function = f; id = id; len = length p + 10 })
 
-  the_frame : Found (frame_of S) ≡ Fields
+  the_frame : ◌≡◌ {A = Result Frame Fault} (Ok (frame_of S)) Fields
   the_frame =
       let ea = written_address a f id p rest fits in
       let ef = written_function a f id p rest in
@@ -90,7 +72,7 @@ module _ (a f id : ℕ) (p rest : List ℕ) (typed : Typed f id p) (small : leng
       let mine' : not_mine own S ≡ false = one_of (address_of S) own 0 (rw (written_address a f id p rest fits) mine) in
       let asks' : no_function S ≡ false = ne_eqb (function_of S) 0 (λ e. asks (sym (written_function a f id p rest) ∙ e)) in
       let none : NoneHolds (meter_rules own S) = (good, (long, (decimal, (counted, (whole, (checked, (mine', (asks', tt)))))))) in
-      answered_none (refusal (missing S)) (Found (frame_of S)) _ (first_none (meter_rules own S) none) ∙ the_frame
+      ap (read_answer S) (first_none (meter_rules own S) none) ∙ the_frame
 
   pub master_reads : (asked g : ℕ) → bad_asked asked g ≡ false → (a ≡ 0 → ⊥) → (a ≡ asked) ⊎ (asked ≡ 0) → (f ≡ g) ⊎ (f ≡ 0)
       → read_at_master asked g id S ≡ Fields
@@ -101,7 +83,7 @@ module _ (a f id : ℕ) (p rest : List ℕ) (typed : Typed f id p) (small : leng
       let answers' : other_function g S ≡ false = one_of (function_of S) g 0 (rw (written_function a f id p rest) answers) in
       let same : other_id id S ≡ false = ap not (eq-eqb (id_of S) id (written_id a f id p rest typed.id_fits)) in
       let none : NoneHolds (master_rules asked g id S) = (good, (long, (decimal, (mine', (answers', (counted, (whole, (checked, (same, tt))))))))) in
-      answered_none (refusal (missing S)) (Found (frame_of S)) _ (first_none (master_rules asked g id S) none) ∙ the_frame
+      ap (read_answer S) (first_none (master_rules asked g id S) none) ∙ the_frame
 
 -- ---- what is accepted
 
@@ -113,14 +95,12 @@ pub record Accepted (s : List ℕ) (fr : Frame) : Type 0 where
   pub whole : on_its_way s ≡ false
   pub checked : bad_crc s ≡ false
 
-found : (n : ℕ) (s : List ℕ) (fr : Frame) → read_answer s n ≡ Found fr → (n ≡ 0) × (frame_of s ≡ fr)
-found n s fr e =
-    let ok = accepted_as (refusal (missing s)) (Found (frame_of s)) (λ r. (told_frame_read r).number) (refusal_tells (missing s)) n (Found fr) e refl in
-    let same : Found (frame_of s) ≡ Found fr = ok.1 in
-    (ok.0, (cc))
+found : (n : ℕ) (s : List ℕ) (fr : Frame) → read_answer s n ≡ Ok fr → (n ≡ 0) × (frame_of s ≡ fr)
+found zero s fr e = (refl, (cc))
+found (suc n) s fr e = absurd (cc)
 
 -- the meter has found a function too
-pub at_meter_lem : (own : ℕ) (s : List ℕ) (fr : Frame) → read_at_meter own s ≡ Found fr → Accepted s fr × (no_function s ≡ false)
+pub at_meter_lem : (own : ℕ) (s : List ℕ) (fr : Frame) → read_at_meter own s ≡ Ok fr → Accepted s fr × (no_function s ≡ false)
 unfolding read_at_meter
 at_meter_lem own s fr e =
     let ok = found (first (meter_rules own s)) s fr e in
@@ -128,7 +108,7 @@ at_meter_lem own s fr e =
     (record { frame = ok.1; decimal = h.0; counted = h.1.0; whole = h.1.1.0; checked = h.1.1.1.0 }, h.1.1.1.1.1.0)
 
 -- the master that the address is not 0
-pub at_master : (address function id : ℕ) (s : List ℕ) (fr : Frame) → read_at_master address function id s ≡ Found fr
+pub at_master : (address function id : ℕ) (s : List ℕ) (fr : Frame) → read_at_master address function id s ≡ Ok fr
     → Accepted s fr × (address_of s ≡ 0 → ⊥)
 unfolding read_at_master
 at_master address function id s fr e =

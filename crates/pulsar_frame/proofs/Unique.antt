@@ -4,7 +4,7 @@ use mathlib.Core.Path.{sym, ◌∙◌}
 use mathlib.Core.List.{List}
 use Prim.Native.Nat.{ℕ}
 use Rattle.wire.specs.Unique.{Unique}
-use Rattle.wire.specs.declared.Written.{Written}
+use Rattle.wire.specs.Writes.{Written}
 use Rattle.wire.proofs.Writes.{writes_once}
 use Rattle.pulsar_frame.proofs.missing.Reads as missing
 use Rattle.pulsar_frame.proofs.read_at_meter.Reads as read-at-meter

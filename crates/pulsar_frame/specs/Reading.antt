@@ -1,15 +1,16 @@
 -- What reading a frame answers: the conditions of the refusal table, their order at the meter and at the master, and the answer.
 -- Assumes nothing.
-use Rattle.std.specs.Prelude.{ℕ, ◌-◌, Bool, true, false, not, ◌&&◌, ◌||◌, List, [], ◌∷◌, ltb, eqb, length}
+use Rattle.std.specs.Prelude.{ℕ, ◌-◌, Bool, true, false, not, ◌&&◌, ◌||◌, List, [], ◌∷◌, ltb, eqb, length, Result, Ok, Err}
 use Rattle.checksum.specs.Crc.{crc}
 use Rattle.wire.specs.Answer.{answered}
+use Rattle.wire.specs.Numbered.{number_of, refusal as by_number}
 use Rattle.wire.specs.Numbers.{is_bcd, field}
 use Rattle.wire.specs.Refusal.{Rule, ◌when◌, pick, first}
 use Rattle.wire.specs.Told.{Told, accepted, refused, refused_with}
 use Rattle.pulsar_frame.specs.Layout.{address_of, function_of, len_of, id_of, crc_of, covered_of}
 use Rattle.pulsar_frame.specs.declared.Frame.{Frame}
-use Rattle.pulsar_frame.specs.declared.FrameRead.{FrameRead}
-use Rattle.pulsar_frame.specs.declared.FrameRead.TheVariants.{Frame as Found, Missing, Refused}
+use Rattle.pulsar_frame.specs.declared.Fault.{Fault}
+use Rattle.pulsar_frame.specs.declared.Fault.TheVariants.{Missing, Refused}
 
 -- 1 own address outside 1..99,999,999
 abbrev pub bad_own : ℕ → Bool
@@ -96,25 +97,25 @@ abbrev pub frame_of : List ℕ → Frame
 frame_of s = record { address = address_of s; function = function_of s; id = id_of s; len = len_of s }
 
 -- the refusal n: "9, with the missing count"
-abbrev pub refused_as : Bool → ℕ → ℕ → FrameRead
+abbrev pub refused_as : Bool → ℕ → ℕ → Fault
 refused_as true lack n = Missing lack
-refused_as false lack n = Refused n
+refused_as false lack n = Refused (by_number n)
 
-abbrev pub refusal : ℕ → ℕ → FrameRead
+abbrev pub refusal : ℕ → ℕ → Fault
 refusal lack n = refused_as (eqb n 9) lack n
 
 -- the answer where the refusal is n, 0 for none
-abbrev pub read_answer : List ℕ → ℕ → FrameRead
-read_answer s n = answered (refusal (missing s)) (Found (frame_of s)) n
+abbrev pub read_answer : List ℕ → ℕ → Result Frame Fault
+read_answer s n = answered (λ n. Err (refusal (missing s) n)) (Ok (frame_of s)) n
 
-unfoldable pub read_at_meter : ℕ → List ℕ → FrameRead
+unfoldable pub read_at_meter : ℕ → List ℕ → Result Frame Fault
 read_at_meter own s = read_answer s (first (meter_rules own s))
 
-unfoldable pub read_at_master : ℕ → ℕ → ℕ → List ℕ → FrameRead
+unfoldable pub read_at_master : ℕ → ℕ → ℕ → List ℕ → Result Frame Fault
 read_at_master address function id s = read_answer s (first (master_rules address function id s))
 
 -- the paper's number and values: address, function, ID, LEN; of 9 the missing count
-abbrev pub told_frame_read : FrameRead → Told
-told_frame_read (Found f) = accepted (f.address ∷ f.function ∷ f.id ∷ f.len ∷ [])
-told_frame_read (Missing lack) = refused_with 9 (lack ∷ [])
-told_frame_read (Refused n) = refused n
+abbrev pub told_frame_read : Result Frame Fault → Told
+told_frame_read (Ok f) = accepted (f.address ∷ f.function ∷ f.id ∷ f.len ∷ [])
+told_frame_read (Err (Missing lack)) = refused_with 9 (lack ∷ [])
+told_frame_read (Err (Refused why)) = refused (number_of why)

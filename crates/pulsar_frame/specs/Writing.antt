@@ -2,8 +2,7 @@
 -- Assumes nothing.
 use Rattle.std.specs.Prelude.{ℕ, ◌+◌, Bool, List, [], ◌∷◌, ltb, length}
 use Rattle.wire.specs.Refusal.{Rule, ◌when◌, first}
-use Rattle.wire.specs.Writes.{Writes}
-use Rattle.wire.specs.declared.Written.{Written}
+use Rattle.wire.specs.Writes.{Written, Writes}
 use Rattle.pulsar_frame.specs.Layout.{frame_bytes}
 use Rattle.pulsar_frame.specs.Reading.{bad_own, bad_asked}
 

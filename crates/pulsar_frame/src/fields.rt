@@ -5,6 +5,14 @@ ghost use Rattle.pulsar_frame.specs.Reading.{frame_of};
 
 use crate::Frame;
 
+// What names an exchange: that of a frame to be written, or that which the master asked with.
+#[derive(Clone, Copy)]
+pub struct Names {
+    pub address: u32,
+    pub function: u8,
+    pub id: u16,
+}
+
 pub fn address_of(bytes: &[u8]) -> u32
     ensures { result ≡ address_of bytes.now }
 {
@@ -20,7 +28,7 @@ pub fn function_of(bytes: &[u8]) -> u8
 pub fn len_of(bytes: &[u8]) -> usize
     ensures { result ≡ len_of bytes.now }
 {
-    wire::byte_at(bytes, 5) as usize
+    usize::from(wire::byte_at(bytes, 5))
 }
 
 // LEN less the bytes received.

@@ -7,12 +7,16 @@ mod meter;
 mod refuse;
 mod write;
 
-ghost use Rattle.std.specs.Prelude.{◌≡◌};
+ghost use Rattle.std.specs.Prelude.{◌≡◌, ℕ};
+ghost use Rattle.wire.specs.Numbered.{refusal as by_number};
 ghost use Rattle.pulsar_frame.specs.Layout.{payload_of};
 ghost use Rattle.pulsar_frame.specs.Reading.{missing, refusal, read_at_meter, read_at_master};
 ghost use Rattle.pulsar_frame.specs.Writing.{WritesRequest, WritesReply};
 
-#[derive(Clone, Copy)]
+use fields::Names;
+use wire::{Refusal, Written};
+
+#[derive(Clone, Copy, Debug, PartialEq, Eq)]
 pub struct Frame {
     pub address: u32,
     pub function: u8,
@@ -21,13 +25,13 @@ pub struct Frame {
     pub len: usize,
 }
 
-#[derive(Clone, Copy)]
-pub enum FrameRead {
-    Frame(Frame),
+// Why the bytes are no frame to the side that reads them.
+#[derive(Clone, Copy, Debug, PartialEq, Eq)]
+pub enum Fault {
     // 9: a frame still on its way, and how many of its bytes lack.
     Missing(usize),
     // Any other refusal.
-    Refused(u8),
+    Refused(Refusal),
 }
 
 // How many bytes lack of the frame that these begin, LEN less their count. 0 where all came, and where LEN is not known yet.
@@ -40,36 +44,41 @@ pub fn missing(bytes: &[u8]) -> usize
     fields::lack_of(bytes)
 }
 
-// The refusal n.
-fn refused(n: u8, bytes: &[u8]) -> FrameRead
-    ensures { result ≡ refusal (missing bytes.now) n }
+// A refusal of the bytes, 9 with their missing count.
+fn fault_of(why: Refusal, bytes: &[u8]) -> Fault
+    ensures { (n : ℕ) → why ≡ by_number n → result ≡ refusal (missing bytes.now) n }
 {
-    if n == 9 {
-        return FrameRead::Missing(missing(bytes));
+    match why {
+        Refusal::OnItsWay => Fault::Missing(missing(bytes)),
+        other => Fault::Refused(other),
     }
-    FrameRead::Refused(n)
 }
 
 // A request, at the meter with the address own.
-pub fn read_at_meter(own: u32, bytes: &[u8]) -> FrameRead
+pub fn read_at_meter(own: u32, bytes: &[u8]) -> Result<Frame, Fault>
     ensures { result ≡ read_at_meter own bytes.now }
 {
-    let n = meter::fault(own, bytes);
-    if n != 0 {
-        return refused(n, bytes);
+    match meter::judge(own, bytes) {
+        Ok(()) => Ok(fields::frame_of(bytes)),
+        // Tried as `map_err` and `?`: what the closure answers is out of the proof's reach.
+        Err(why) => Err(fault_of(why, bytes)),
     }
-    FrameRead::Frame(fields::frame_of(bytes))
 }
 
 // A reply, at the master that asked address for function under id.
-pub fn read_at_master(address: u32, function: u8, id: u16, bytes: &[u8]) -> FrameRead
+pub fn read_at_master(address: u32, function: u8, id: u16, bytes: &[u8]) -> Result<Frame, Fault>
     ensures { result ≡ read_at_master address function id bytes.now }
 {
-    let n = master::fault(address, function, id, bytes);
-    if n != 0 {
-        return refused(n, bytes);
+    let asked = Names {
+        address,
+        function,
+        id,
+    };
+    // Tried in one function with the meter's: that stays a call which reads the fields again, 90 instructions more.
+    match master::judge(asked, bytes) {
+        Ok(()) => Ok(fields::frame_of(bytes)),
+        Err(why) => Err(fault_of(why, bytes)),
     }
-    FrameRead::Frame(fields::frame_of(bytes))
 }
 
 // The payload of an accepted frame of len bytes, as a part of the bytes received.
@@ -80,27 +89,31 @@ pub fn payload(bytes: &[u8], len: usize) -> &[u8]
 }
 
 // The master's request, over the front of out.
-pub fn write_request(
-    address: u32,
-    function: u8,
-    id: u16,
-    payload: &[u8],
-    out: &mut [u8],
-) -> wire::Written
+pub fn write_request(address: u32, function: u8, id: u16, payload: &[u8], out: &mut [u8]) -> Written
     ensures { WritesRequest address function id payload.now out.old result out.new }
 {
-    if refuse::bad_asked(address, function) {
-        return wire::Written::Refused(1);
+    let asked = Names {
+        address,
+        function,
+        id,
+    };
+    if refuse::bad_asked(asked) {
+        return Err(Refusal::BadArgument);
     }
-    write::write_frame(address, function, id, payload, out)
+    write::write_frame(asked, payload, out)
 }
 
 // The meter's reply, over the front of out.
-pub fn write_reply(own: u32, function: u8, id: u16, payload: &[u8], out: &mut [u8]) -> wire::Written
+pub fn write_reply(own: u32, function: u8, id: u16, payload: &[u8], out: &mut [u8]) -> Written
     ensures { WritesReply own function id payload.now out.old result out.new }
 {
     if refuse::bad_own(own) {
-        return wire::Written::Refused(1);
+        return Err(Refusal::BadArgument);
     }
-    write::write_frame(own, function, id, payload, out)
+    let names = Names {
+        address: own,
+        function,
+        id,
+    };
+    write::write_frame(names, payload, out)
 }

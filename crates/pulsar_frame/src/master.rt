@@ -1,46 +1,50 @@
-// The first condition that holds at the master, 0 where none does.
+// The first condition that holds at the master. Rows that the meter has too stand here again, one by one: their orders differ, and edits of
+// must-fail/ change two of these about.
 ghost use Rattle.std.specs.Prelude.{◌≡◌, drop};
+ghost use Rattle.wire.specs.Answer.{judged};
 ghost use Rattle.wire.specs.Refusal.{first};
 ghost use Rattle.pulsar_frame.specs.Reading.{master_rules};
 
+use crate::fields::Names;
 use crate::refuse;
+use wire::Refusal;
 
-// The rules after the first three. The compiler takes what six tests in one function precede for rare, and leaves it a call.
-fn later_fault(address: u32, function: u8, id: u16, bytes: &[u8]) -> u8
-    ensures { result ≡ first (drop 3 (master_rules address function id bytes.now)) }
+// The rules after the first three, by themselves for the reason that stands at the meter.
+fn judge_later(asked: Names, bytes: &[u8]) -> Result<(), Refusal>
+    ensures { result ≡ judged tt (first (drop 3 (master_rules asked.address asked.function asked.id bytes.now))) }
 {
-    if refuse::not_asked(address, bytes) {
-        return 6;
+    if refuse::not_asked(asked.address, bytes) {
+        return Err(Refusal::OtherAddress);
     }
-    if refuse::other_function(function, bytes) {
-        return 7;
+    if refuse::other_function(asked.function, bytes) {
+        return Err(Refusal::OtherFunction);
     }
     if refuse::bad_length(bytes) {
-        return 4;
+        return Err(Refusal::BadLength);
     }
     if refuse::on_its_way(bytes) {
-        return 9;
+        return Err(Refusal::OnItsWay);
     }
     if refuse::bad_crc(bytes) {
-        return 5;
+        return Err(Refusal::BadCrc);
     }
-    if refuse::other_id(id, bytes) {
-        return 8;
+    if refuse::other_id(asked.id, bytes) {
+        return Err(Refusal::OtherId);
     }
-    0
+    Ok(())
 }
 
-pub fn fault(address: u32, function: u8, id: u16, bytes: &[u8]) -> u8
-    ensures { result ≡ first (master_rules address function id bytes.now) }
+pub fn judge(asked: Names, bytes: &[u8]) -> Result<(), Refusal>
+    ensures { result ≡ judged tt (first (master_rules asked.address asked.function asked.id bytes.now)) }
 {
-    if refuse::bad_asked(address, function) {
-        return 1;
+    if refuse::bad_asked(asked) {
+        return Err(Refusal::BadArgument);
     }
     if refuse::too_short(bytes) {
-        return 2;
+        return Err(Refusal::TooShort);
     }
     if refuse::not_bcd(bytes) {
-        return 3;
+        return Err(Refusal::NotBcd);
     }
-    later_fault(address, function, id, bytes)
+    judge_later(asked, bytes)
 }

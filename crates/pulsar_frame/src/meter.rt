@@ -1,43 +1,46 @@
-// The first condition that holds at the meter, 0 where none does.
+// The first condition that holds at the meter.
 ghost use Rattle.std.specs.Prelude.{◌≡◌, drop};
+ghost use Rattle.wire.specs.Answer.{judged};
 ghost use Rattle.wire.specs.Refusal.{first};
 ghost use Rattle.pulsar_frame.specs.Reading.{meter_rules};
 
 use crate::refuse;
+use wire::Refusal;
 
-// The rules after the first three. The compiler takes what six tests in one function precede for rare, and leaves it a call.
-fn later_fault(own: u32, bytes: &[u8]) -> u8
-    ensures { result ≡ first (drop 3 (meter_rules own bytes.now)) }
+// The rules after the first three. Tried as one function with them: the compiler takes what follows six tests for rare and leaves it a call,
+// 45 instructions more for a frame of ten bytes.
+fn judge_later(own: u32, bytes: &[u8]) -> Result<(), Refusal>
+    ensures { result ≡ judged tt (first (drop 3 (meter_rules own bytes.now))) }
 {
     if refuse::bad_length(bytes) {
-        return 4;
+        return Err(Refusal::BadLength);
     }
     if refuse::on_its_way(bytes) {
-        return 9;
+        return Err(Refusal::OnItsWay);
     }
     if refuse::bad_crc(bytes) {
-        return 5;
+        return Err(Refusal::BadCrc);
     }
     if refuse::not_mine(own, bytes) {
-        return 6;
+        return Err(Refusal::OtherAddress);
     }
     if refuse::no_function(bytes) {
-        return 7;
+        return Err(Refusal::OtherFunction);
     }
-    0
+    Ok(())
 }
 
-pub fn fault(own: u32, bytes: &[u8]) -> u8
-    ensures { result ≡ first (meter_rules own bytes.now) }
+pub fn judge(own: u32, bytes: &[u8]) -> Result<(), Refusal>
+    ensures { result ≡ judged tt (first (meter_rules own bytes.now)) }
 {
     if refuse::bad_own(own) {
-        return 1;
+        return Err(Refusal::BadArgument);
     }
     if refuse::too_short(bytes) {
-        return 2;
+        return Err(Refusal::TooShort);
     }
     if refuse::not_bcd(bytes) {
-        return 3;
+        return Err(Refusal::NotBcd);
     }
-    later_fault(own, bytes)
+    judge_later(own, bytes)
 }

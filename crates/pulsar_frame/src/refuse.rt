@@ -4,17 +4,18 @@ ghost use Rattle.pulsar_frame.specs.Reading.{bad_own, bad_asked, too_short, not_
 ghost use Rattle.pulsar_frame.specs.Writing.{too_long, no_room};
 
 use crate::fields;
+use crate::fields::Names;
 
 pub fn bad_own(own: u32) -> bool
     ensures { result ≡ bad_own own }
 {
-    (own == 0) | (99_999_999 < own)
+    own == 0 || 99_999_999 < own
 }
 
-pub fn bad_asked(address: u32, function: u8) -> bool
-    ensures { result ≡ bad_asked address function }
+pub fn bad_asked(asked: Names) -> bool
+    ensures { result ≡ bad_asked asked.address asked.function }
 {
-    (99_999_999 < address) | (function == 0)
+    99_999_999 < asked.address || asked.function == 0
 }
 
 pub fn too_short(bytes: &[u8]) -> bool
@@ -53,14 +54,14 @@ pub fn not_mine(own: u32, bytes: &[u8]) -> bool
     ensures { result ≡ not_mine own bytes.now }
 {
     let a = fields::address_of(bytes);
-    !((a == own) | (a == 0))
+    !(a == own || a == 0)
 }
 
 pub fn not_asked(address: u32, bytes: &[u8]) -> bool
     ensures { result ≡ not_asked address bytes.now }
 {
     let a = fields::address_of(bytes);
-    !(((address != 0) & (a == address)) | ((address == 0) & (a != 0)))
+    !((address != 0 && a == address) || (address == 0 && a != 0))
 }
 
 pub fn no_function(bytes: &[u8]) -> bool
@@ -73,7 +74,7 @@ pub fn other_function(function: u8, bytes: &[u8]) -> bool
     ensures { result ≡ other_function function bytes.now }
 {
     let f = fields::function_of(bytes);
-    !((f == function) | (f == 0))
+    !(f == function || f == 0)
 }
 
 pub fn other_id(id: u16, bytes: &[u8]) -> bool

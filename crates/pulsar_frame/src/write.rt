@@ -6,46 +6,42 @@ ghost use Rattle.wire.specs.Writes.{Writes};
 ghost use Rattle.pulsar_frame.specs.Layout.{frame_body, frame_bytes};
 ghost use Rattle.pulsar_frame.specs.Writing.{room_rules};
 
+use crate::fields::Names;
 use crate::refuse;
+use wire::{Refusal, Written};
 
-// All before CRC.
-fn put_body(address: u32, function: u8, id: u16, payload: &[u8], out: &mut [u8])
+// All before CRC. The payload stands beside the names: the master asks with the same names, and has none.
+fn put_body(names: Names, payload: &[u8], out: &mut [u8])
     requires { length payload.now ≤ 245 }
-    ensures { out.new ≡ sets out.old 0 (frame_body address function id payload.now) }
+    ensures { out.new ≡ sets out.old 0 (frame_body names.address names.function names.id payload.now) }
 {
     let n = payload.len();
-    wire::put_bcd32(out, address);
-    wire::put(out, 4, function);
+    wire::put_bcd32(out, names.address);
+    wire::put(out, 4, names.function);
     wire::put(out, 5, (n + 10) as u8);
     wire::put_all(out, 6, payload);
-    wire::put_le16(out, n + 6, id);
+    wire::put_le16(out, n + 6, names.id);
 }
 
-fn put_frame(address: u32, function: u8, id: u16, payload: &[u8], out: &mut [u8])
+fn put_frame(names: Names, payload: &[u8], out: &mut [u8])
     requires { (length payload.now ≤ 245) × (length payload.now + 10 ≤ length out.old) }
-    ensures { out.new ≡ sets out.old 0 (frame_bytes address function id payload.now) }
+    ensures { out.new ≡ sets out.old 0 (frame_bytes names.address names.function names.id payload.now) }
 {
-    put_body(address, function, id, payload, out);
+    put_body(names, payload, out);
     let n = payload.len() + 8;
     let crc = checksum::checksum(&out[..n]);
     wire::put_le16(out, n, crc);
 }
 
-pub fn write_frame(
-    address: u32,
-    function: u8,
-    id: u16,
-    payload: &[u8],
-    out: &mut [u8],
-) -> wire::Written
-    ensures { Writes (first (room_rules payload.now out.old)) (frame_bytes address function id payload.now) out.old result out.new }
+pub fn write_frame(names: Names, payload: &[u8], out: &mut [u8]) -> Written
+    ensures { Writes (first (room_rules payload.now out.old)) (frame_bytes names.address names.function names.id payload.now) out.old result out.new }
 {
     if refuse::too_long(payload) {
-        return wire::Written::Refused(17);
+        return Err(Refusal::TooLong);
     }
     if refuse::no_room(payload, out) {
-        return wire::Written::Refused(16);
+        return Err(Refusal::NoRoom);
     }
-    put_frame(address, function, id, payload, out);
-    wire::Written::Length(payload.len() + 10)
+    put_frame(names, payload, out);
+    Ok(payload.len() + 10)
 }

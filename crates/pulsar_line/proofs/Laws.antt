@@ -10,15 +10,14 @@ use lib.Dec.{ltb}
 use lib.ListN.{length, take, drop, set, length-append, length-take}
 use lib.Seq.{take_all, take-append-le, length-take-le, take-append_seam}
 use borrow.Author.Tests.{le-ltb, lt-ltb, ltb-true, ltb-false}
+use Rattle.std.specs.Prelude.{Ok, Err}
 use Rattle.wire.specs.Numbers.{over}
 use Rattle.wire.specs.Told.{accepted}
+use Rattle.wire.specs.declared.refusals.Refusal.TheVariants.{Unfit}
 use Rattle.wire.proofs.Writing.{sets_over, sets_append}
 use Rattle.pulsar_frame.specs.Reading.{missing}
-use Rattle.pulsar_line.specs.Collect.{fresh, zeros, unfit, pushed, silenced, Event, byte, quiet, after, since, handing, told_pushed, told_handed}
+use Rattle.pulsar_line.specs.Collect.{Pushed, Silenced, fresh, zeros, unfit, pushed, silenced, Event, byte, quiet, after, since, handing, told_pushed, told_handed}
 use Rattle.pulsar_line.specs.declared.Collector.{Collector}
-use Rattle.pulsar_line.specs.declared.Pushed.{Pushed}
-use Rattle.pulsar_line.specs.declared.Handed.{Handed}
-use Rattle.pulsar_line.specs.declared.Answer.TheVariants.{Done, Refused}
 use Rattle.pulsar_line.proofs.Answers.{push_unfit, push_added, push_dropped, silence_unfit, silence_fit}
 
 -- the collector that has taken bs since it was fresh
@@ -41,13 +40,13 @@ one_more xs b h =
     ∙ sets_over zeros (xs ++ (b ∷ [])) more
 
 -- the first 255 of one byte more: it is among them, or it is not
-pushes : (bs : List ℕ) (b : ℕ) → pushed (holding bs) b ≡ record { answer = Done; state = holding (bs ++ (b ∷ [])) }
+pushes : (bs : List ℕ) (b : ℕ) → pushed (holding bs) b ≡ record { answer = Ok tt; state = holding (bs ++ (b ∷ [])) }
 pushes bs b = go (ltb (length bs) 255) refl
   where
     xs : List ℕ
     xs = take 255 bs
 
-    go : (t : Bool) → ltb (length bs) 255 ≡ t → pushed (holding bs) b ≡ record { answer = Done; state = holding (bs ++ (b ∷ [])) }
+    go : (t : Bool) → ltb (length bs) 255 ≡ t → pushed (holding bs) b ≡ record { answer = Ok tt; state = holding (bs ++ (b ∷ [])) }
     go true t =
         let less : length bs < 255 = ltb-true (length bs) 255 t in
         let all : take 255 bs ≡ bs = take_all 255 bs (omega arith) in
@@ -55,14 +54,14 @@ pushes bs b = go (ltb (length bs) 255) refl
         let more : length (bs ++ (b ∷ [])) ≤ 255 = simp length-append (omega arith) in
         let e : xs ++ (b ∷ []) ≡ take 255 (bs ++ (b ∷ [])) = ap (λ (l : List ℕ). l ++ (b ∷ [])) all ∙ sym (take_all 255 (bs ++ (b ∷ [])) more) in
         sym (push_added (holding bs) false (sym (fit bs)) b refl room)
-        ∙ ap₂ (λ (l : List ℕ) (n : ℕ). record { answer = Done; state = record { bytes = l; count = n } })
+        ∙ ap₂ (λ (l : List ℕ) (n : ℕ). record { answer = Ok tt; state = record { bytes = l; count = n } })
         (one_more xs b room ∙ ap (over zeros) e)
         (sym (length-append xs (b ∷ [])) ∙ ap length e)
     go false t =
         let full : 255 ≤ length bs = ltb-false (length bs) 255 t in
         let here : 255 ≤ length xs = omega (arith, length-take-le 255 bs full) in
         sym (push_dropped (holding bs) false (sym (fit bs)) b refl here)
-        ∙ ap (λ (l : List ℕ). record { answer = Done; state = record { bytes = over zeros l; count = length l } })
+        ∙ ap (λ (l : List ℕ). record { answer = Ok tt; state = record { bytes = over zeros l; count = length l } })
         (sym (take-append-le 255 bs (b ∷ []) full))
 
 -- the buffer begins with what it holds
@@ -79,7 +78,7 @@ holds : (bs : List ℕ) (es : List Event) → after (holding bs) es ≡ holding 
 unfolding over
 holds bs [] = refl
 holds bs (byte b ∷ es) = ap (λ (p : Pushed). after p.state es) (pushes bs b) ∙ holds (bs ++ (b ∷ [])) es
-holds bs (quiet ∷ es) = ap (λ (h : Handed). after h.state es) (silences bs) ∙ holds [] es
+holds bs (quiet ∷ es) = ap (λ (h : Silenced). after h.state es) (silences bs) ∙ holds [] es
 
 -- after any bytes and silences, this is what a silence hands over, every byte of the buffer and the state too
 pub collected : (es : List Event) → silenced (after fresh es) ≡ handing (take 255 (since [] es))
@@ -99,8 +98,8 @@ taken es b = ap (λ (c : Collector). told_pushed (pushed c b)) (holds [] es) ∙
 
 -- a count above 255 gives 20, and the state stays
 pub unfit_refused : (c : Collector) (b : ℕ) → 255 < c.count
-    → (pushed c b ≡ record { answer = Refused 20; state = c })
-    × (silenced c ≡ record { answer = Refused 20; bytes = zeros; count = 0; missing = 0; state = c })
+    → (pushed c b ≡ record { answer = Err Unfit; state = c })
+    × (silenced c ≡ record { answer = Err Unfit; state = c })
 unfit_refused c b h =
     let e : true ≡ unfit c.count = sym (lt-ltb 255 c.count h) in
     (sym (push_unfit c true e b refl), sym (silence_unfit c true e refl))

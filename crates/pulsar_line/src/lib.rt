@@ -4,33 +4,32 @@
 ghost use Rattle.std.specs.Prelude.{◌≡◌};
 ghost use Rattle.pulsar_line.specs.Collect.{fresh, unfit, pushed, silenced};
 
-#[derive(Clone, Copy)]
+use wire::Refusal;
+
+// The first `count` bytes are held. An array with its count, since there is no heap; the other bytes are a host's to keep too (`pushed`).
+#[derive(Clone, Copy, Debug, PartialEq, Eq)]
 pub struct Collector {
     pub bytes: [u8; 255],
     pub count: usize,
 }
 
-#[derive(Clone, Copy)]
-pub enum Answer {
-    Done,
-    Refused(u8),
-}
-
-#[derive(Clone, Copy)]
-pub struct Pushed {
-    pub answer: Answer,
+// What a call answers, and the collector after it.
+#[derive(Clone, Copy, Debug, PartialEq, Eq)]
+pub struct Answered<T> {
+    pub answer: Result<T, Refusal>,
     pub state: Collector,
 }
 
-// What silence hands over: bytes, of which the first `count` were collected, and how many of the frame that they begin lack. Where it
-// refuses, none.
-#[derive(Clone, Copy)]
+pub type Pushed = Answered<()>;
+
+pub type Silenced = Answered<Handed>;
+
+// What silence hands over: bytes, of which the first `count` were collected, and how many of the frame that they begin lack.
+#[derive(Clone, Copy, Debug, PartialEq, Eq)]
 pub struct Handed {
-    pub answer: Answer,
     pub bytes: [u8; 255],
     pub count: usize,
     pub missing: usize,
-    pub state: Collector,
 }
 
 pub fn new() -> Collector
@@ -42,57 +41,54 @@ pub fn new() -> Collector
     }
 }
 
-fn unfit(count: usize) -> bool
-    ensures { result ≡ unfit count }
-{
-    255 < count
+impl Collector {
+    fn unfit(&self) -> bool
+        ensures { result ≡ unfit self.now.count }
+    {
+        255 < self.count
+    }
 }
 
 // A byte from the line.
 #[tactic(auto, using(crate::proofs::Answers::push_unfit, crate::proofs::Answers::push_added, crate::proofs::Answers::push_dropped))]
-pub fn push(c: Collector, b: u8) -> Pushed
+pub fn push(mut c: Collector, b: u8) -> Pushed
     ensures { result ≡ pushed c b }
 {
-    let at = c.count;
-    if unfit(at) {
-        return Pushed {
-            answer: Answer::Refused(20),
+    if c.unfit() {
+        return Answered {
+            answer: Err(Refusal::Unfit),
             state: c,
         };
     }
-    let mut d = c;
+    let at = c.count;
     if at < 255 {
-        d.bytes[at] = b;
-        d.count = at + 1;
+        c.bytes[at] = b;
+        c.count = at + 1;
     }
-    Pushed {
-        answer: Answer::Done,
-        state: d,
+    Answered {
+        answer: Ok(()),
+        state: c,
     }
 }
 
 // Silence on the line: the frame, if it was one, has ended.
-pub fn silence(c: Collector) -> Handed
+#[tactic(auto, using(crate::proofs::Answers::silence_unfit, crate::proofs::Answers::silence_fit))]
+pub fn silence(c: Collector) -> Silenced
     ensures { result ≡ silenced c }
 {
-    let count = c.count;
-    if unfit(count) {
-        return Handed {
-            answer: Answer::Refused(20),
-            bytes: [0u8; 255],
-            count: 0,
-            missing: 0,
+    if c.unfit() {
+        return Answered {
+            answer: Err(Refusal::Unfit),
             state: c,
         };
     }
-    let bytes = c.bytes;
-    let missing = pulsar_frame::missing(wire::front(&bytes, count));
-    let afresh = new();
-    Handed {
-        answer: Answer::Done,
-        bytes: bytes,
-        count: count,
-        missing: missing,
-        state: afresh,
+    let handed = Handed {
+        bytes: c.bytes,
+        count: c.count,
+        missing: pulsar_frame::missing(wire::front(&c.bytes, c.count)),
+    };
+    Answered {
+        answer: Ok(handed),
+        state: new(),
     }
 }

@@ -1,10 +1,11 @@
 -- The bodies of replies. Many-byte fields are least significant first.
 -- Assumes nothing.
-use Rattle.std.specs.Prelude.{ℕ, cond, List, [], ◌∷◌, ◌++◌, eqb, drop, get_or}
+use Rattle.std.specs.Prelude.{ℕ, cond, List, [], ◌∷◌, ◌++◌, eqb, drop, get_or, Option, None, Some}
 use Rattle.wire.specs.Numbers.{le, field}
 use Rattle.date.specs.Date.{date_bytes, date_of, no_date, is_no_date}
 use Rattle.date.specs.declared.DateTime.{DateTime}
 use Rattle.pulsar_body.specs.Fields.{mask_of, date_in}
+use Rattle.pulsar_body.specs.declared.Form.{Form}
 use Rattle.pulsar_body.specs.declared.Values.{Values}
 use Rattle.pulsar_body.specs.declared.Values.TheVariants.{Nothing, Channels, Any, Eight}
 use Rattle.pulsar_reply.specs.declared.ArchiveReply.{ArchiveReply}
@@ -15,16 +16,16 @@ use Rattle.pulsar_reply.specs.declared.Function.TheVariants as F
 
 -- ---- the functions
 
-abbrev pub function_from : ℕ → Function
+abbrev pub function_from : ℕ → Option Function
 function_from n =
-    cond (eqb n 0x00) F.Error
-    (cond (eqb n 0x01) F.Channels
-    (cond (eqb n 0x02) F.ChannelsWritten
-    (cond (eqb n 0x04) F.Clock
-    (cond (eqb n 0x05) F.ClockSet
-    (cond (eqb n 0x06) F.Archive
-    (cond (eqb n 0x0A) F.Parameter
-    (cond (eqb n 0x0B) F.ParameterWritten F.Unknown)))))))
+    cond (eqb n 0x00) (Some F.Error)
+    (cond (eqb n 0x01) (Some F.Channels)
+    (cond (eqb n 0x02) (Some F.ChannelsWritten)
+    (cond (eqb n 0x04) (Some F.Clock)
+    (cond (eqb n 0x05) (Some F.ClockSet)
+    (cond (eqb n 0x06) (Some F.Archive)
+    (cond (eqb n 0x0A) (Some F.Parameter)
+    (cond (eqb n 0x0B) (Some F.ParameterWritten) None)))))))
 
 abbrev pub function_of : Reply → Function
 function_of (P.Error n) = F.Error
@@ -37,7 +38,6 @@ function_of (P.Archive a) = F.Archive
 function_of P.Parameter = F.Parameter
 function_of P.ParameterWritten = F.ParameterWritten
 
--- an unknown function has none of these numbers
 abbrev pub function_number : Function → ℕ
 function_number F.Error = 0x00
 function_number F.Channels = 0x01
@@ -47,7 +47,6 @@ function_number F.ClockSet = 0x05
 function_number F.Archive = 0x06
 function_number F.Parameter = 0x0A
 function_number F.ParameterWritten = 0x0B
-function_number F.Unknown = 0xFF
 
 -- ---- the bytes of a reply: its head, and the value bytes (rising channels in an 01 reply)
 
@@ -80,7 +79,6 @@ head_length F.ClockSet = 4
 head_length F.Archive = 10
 head_length F.Parameter = 0
 head_length F.ParameterWritten = 2
-head_length F.Unknown = 0
 
 -- the value bytes that follow it: "one value a channel", "0 or more values", "reply: 8 bytes"
 abbrev pub values_after : Function → Values
@@ -92,7 +90,9 @@ values_after F.ClockSet = Nothing
 values_after F.Archive = Any
 values_after F.Parameter = Eight
 values_after F.ParameterWritten = Nothing
-values_after F.Unknown = Nothing
+
+abbrev pub form_of : Function → Form
+form_of f = record { head = head_length f; values = values_after f }
 
 -- ---- the fields of given bytes
 
@@ -112,7 +112,7 @@ archive_of s = record { mask = mask_of s; first = first_of s }
 abbrev pub clock_of : DateTime → Reply
 clock_of d = cond (is_no_date d) P.NoClock (P.Clock d)
 
--- the reply that a body says (what is unknown has been refused before)
+-- the reply that a body says
 abbrev pub reply_of : Function → List ℕ → Reply
 reply_of F.Error s = P.Error (error_of s)
 reply_of F.Channels s = P.Channels
@@ -122,7 +122,6 @@ reply_of F.ClockSet s = P.ClockSet (status_of s)
 reply_of F.Archive s = P.Archive (archive_of s)
 reply_of F.Parameter s = P.Parameter
 reply_of F.ParameterWritten s = P.ParameterWritten
-reply_of F.Unknown s = P.Channels
 
 -- the value bytes: what follows the head
 abbrev pub values_of : Reply → List ℕ → List ℕ

@@ -1,33 +1,20 @@
 -- Reading a reply's body: 1, 10, 11, and then its fields in their order. The asked mask matters to the 01 reply alone.
 -- Assumes nothing.
-use Rattle.std.specs.Prelude.{ℕ, Bool, true, false, List, [], ◌∷◌, ◌++◌}
-use Rattle.wire.specs.Refusal.{Rule, ◌when◌, first}
-use Rattle.wire.specs.Answer.{answered}
+use Rattle.std.specs.Prelude.{ℕ, List, [], ◌∷◌, Option, Result, Ok, Err}
+use Rattle.wire.specs.Refusal.{Rule, ◌when◌}
+use Rattle.wire.specs.Numbered.{number_of}
 use Rattle.wire.specs.Told.{Told, accepted, refused}
+use Rattle.wire.specs.declared.refusals.Refusal.{Refusal}
 use Rattle.date.specs.Date.{date_bytes}
 use Rattle.date.specs.declared.DateTime.{DateTime}
 use Rattle.pulsar_body.specs.Fields.{mask_of, date_in, mask_faults}
-use Rattle.pulsar_body.specs.Body.{body_rules}
-use Rattle.pulsar_reply.specs.Layout.{function_from, function_of, function_number, head_length, values_after, status_of, first_of, reply_of}
+use Rattle.pulsar_body.specs.Body.{reading_rules, reading_answer}
+use Rattle.pulsar_reply.specs.Layout.{function_from, function_of, function_number, form_of, status_of, first_of, reply_of}
 use Rattle.pulsar_reply.specs.Fields.{not_clock, bad_status, not_three_zeros, not_two_zeros, archive_faults}
 use Rattle.pulsar_reply.specs.declared.Reply.{Reply}
 use Rattle.pulsar_reply.specs.declared.Reply.TheVariants as P
-use Rattle.pulsar_reply.specs.declared.ReplyRead.{ReplyRead}
-use Rattle.pulsar_reply.specs.declared.ReplyRead.TheVariants as R
 use Rattle.pulsar_reply.specs.declared.Function.{Function}
 use Rattle.pulsar_reply.specs.declared.Function.TheVariants as F
-
--- 10 function not among those above
-abbrev pub is_unknown : Function → Bool
-is_unknown F.Error = false
-is_unknown F.Channels = false
-is_unknown F.ChannelsWritten = false
-is_unknown F.Clock = false
-is_unknown F.ClockSet = false
-is_unknown F.Archive = false
-is_unknown F.Parameter = false
-is_unknown F.ParameterWritten = false
-is_unknown F.Unknown = true
 
 -- the rules of a body whose judged field is the clock, and of the status with its zeros, and of two zeros
 abbrev pub clock_rules : DateTime → List Rule
@@ -49,18 +36,13 @@ field_rules F.ClockSet mask s = status_rules s
 field_rules F.Archive mask s = archive_faults (mask_of s) (first_of s)
 field_rules F.Parameter mask s = []
 field_rules F.ParameterWritten mask s = zeros_rules s
-field_rules F.Unknown mask s = []
 
--- what is judged of every body, and then the fields: "Where several fields of one body are at fault, the earlier field is judged first,
--- after 11."
-abbrev pub reply_rules : Function → ℕ → ℕ → List ℕ → List Rule
-reply_rules function width mask s =
-    body_rules (is_unknown function) (head_length function) (values_after function) width mask s
-    ++ field_rules function mask s
+-- what is judged of every body, and then the fields
+abbrev pub reply_rules : Option Function → ℕ → ℕ → List ℕ → List Rule
+reply_rules function width mask s = reading_rules form_of (λ f. field_rules f mask s) function width mask s
 
-unfoldable pub read_reply : ℕ → ℕ → ℕ → List ℕ → ReplyRead
-read_reply number width mask s =
-    answered R.Refused (R.Reply (reply_of (function_from number) s)) (first (reply_rules (function_from number) width mask s))
+unfoldable pub read_reply : ℕ → ℕ → ℕ → List ℕ → Result Reply Refusal
+read_reply number width mask s = reading_answer form_of (λ f. field_rules f mask s) (λ f. reply_of f s) (function_from number) width mask s
 
 -- a reply by the paper's numbers: its function, and its fields (no date has none)
 abbrev pub field_numbers : Reply → List ℕ
@@ -74,6 +56,6 @@ field_numbers (P.Archive a) = a.mask ∷ date_bytes a.first
 field_numbers P.Parameter = []
 field_numbers P.ParameterWritten = []
 
-abbrev pub told_reply : ReplyRead → Told
-told_reply (R.Reply reply) = accepted (function_number (function_of reply) ∷ field_numbers reply)
-told_reply (R.Refused n) = refused n
+abbrev pub told_reply : Result Reply Refusal → Told
+told_reply (Ok reply) = accepted (function_number (function_of reply) ∷ field_numbers reply)
+told_reply (Err e) = refused (number_of e)

@@ -1,62 +1,14 @@
 // The refusals of replies, in the paper's order.
 ghost use Rattle.std.specs.Prelude.{◌≡◌};
+ghost use Rattle.wire.specs.Answer.{judged};
 ghost use Rattle.wire.specs.Refusal.{first};
-ghost use Rattle.pulsar_reply.specs.Layout.{head_length, values_after};
 ghost use Rattle.pulsar_reply.specs.Fields.{not_clock, bad_status, not_zero, not_three_zeros, not_two_zeros, archive_faults};
-ghost use Rattle.pulsar_reply.specs.Reading.{is_unknown, clock_rules, status_rules, zeros_rules, field_rules, reply_rules};
-ghost use Rattle.pulsar_reply.specs.Writing.{status_faults, field_faults, writing_rules};
+ghost use Rattle.pulsar_reply.specs.Reading.{clock_rules, status_rules, zeros_rules, field_rules};
+ghost use Rattle.pulsar_reply.specs.Writing.{status_faults, field_faults};
 
-use crate::{Function, Reply};
+use crate::{ArchiveReply, Function, Reply};
 use date::DateTime;
-use pulsar_body::Values;
-
-fn is_unknown(function: Function) -> bool
-    ensures { result ≡ is_unknown function }
-{
-    match function {
-        Function::Error => false,
-        Function::Channels => false,
-        Function::ChannelsWritten => false,
-        Function::Clock => false,
-        Function::ClockSet => false,
-        Function::Archive => false,
-        Function::Parameter => false,
-        Function::ParameterWritten => false,
-        Function::Unknown => true,
-    }
-}
-
-pub fn head_length(function: Function) -> usize
-    ensures { result ≡ head_length function }
-{
-    match function {
-        Function::Error => 1,
-        Function::Channels => 0,
-        Function::ChannelsWritten => 4,
-        Function::Clock => 6,
-        Function::ClockSet => 4,
-        Function::Archive => 10,
-        Function::Parameter => 0,
-        Function::ParameterWritten => 2,
-        Function::Unknown => 0,
-    }
-}
-
-fn values_after(function: Function) -> Values
-    ensures { result ≡ values_after function }
-{
-    match function {
-        Function::Error => Values::Nothing,
-        Function::Channels => Values::Channels,
-        Function::ChannelsWritten => Values::Nothing,
-        Function::Clock => Values::Nothing,
-        Function::ClockSet => Values::Nothing,
-        Function::Archive => Values::Any,
-        Function::Parameter => Values::Eight,
-        Function::ParameterWritten => Values::Nothing,
-        Function::Unknown => Values::Nothing,
-    }
-}
+use wire::Refusal;
 
 fn not_clock(d: DateTime) -> bool
     ensures { result ≡ not_clock d }
@@ -64,13 +16,13 @@ fn not_clock(d: DateTime) -> bool
     !(date::is_date(d) | date::is_no_date(d))
 }
 
-fn clock_fault(d: DateTime) -> u8
-    ensures { result ≡ first (clock_rules d) }
+fn clock_fault(d: DateTime) -> Result<(), Refusal>
+    ensures { result ≡ judged tt (first (clock_rules d)) }
 {
     if not_clock(d) {
-        return 13;
+        return Err(Refusal::BadDate);
     }
-    0
+    Ok(())
 }
 
 fn bad_status(status: u8) -> bool
@@ -97,108 +49,69 @@ fn not_two_zeros(body: &[u8]) -> bool
     not_zero(body, 0) | not_zero(body, 1)
 }
 
-fn status_fields(body: &[u8]) -> u8
-    ensures { result ≡ first (status_rules body.now) }
-{
-    if bad_status(wire::byte_at(body, 0)) {
-        return 15;
-    }
-    if not_three_zeros(body) {
-        return 15;
-    }
-    0
-}
-
-fn zeros_fault(body: &[u8]) -> u8
-    ensures { result ≡ first (zeros_rules body.now) }
-{
-    if not_two_zeros(body) {
-        return 15;
-    }
-    0
-}
-
-fn archive_faults(mask: u32, from: DateTime) -> u8
-    ensures { result ≡ first (archive_faults mask from) }
-{
-    if pulsar_body::not_one(mask) {
-        return 12;
-    }
-    if pulsar_body::not_date(from) {
-        return 13;
-    }
-    0
-}
-
-fn body_fields(function: Function, mask: u32, body: &[u8]) -> u8
-    ensures { result ≡ first (field_rules function mask body.now) }
-{
-    match function {
-        Function::Error => 0,
-        Function::Channels => pulsar_body::mask_fault(mask),
-        Function::ChannelsWritten => 0,
-        Function::Clock => clock_fault(date::date_at(body, 0)),
-        Function::ClockSet => status_fields(body),
-        Function::Archive => archive_faults(wire::le32_at(body, 0), date::date_at(body, 4)),
-        Function::Parameter => 0,
-        Function::ParameterWritten => zeros_fault(body),
-        Function::Unknown => 0,
-    }
-}
-
-// The number of the first rule that holds, 0 where none does.
-pub fn read_fault(function: Function, width: usize, mask: u32, body: &[u8]) -> u8
-    ensures { result ≡ first (reply_rules function width mask body.now) }
-{
-    let unknown = is_unknown(function);
-    let head = head_length(function);
-    let due = values_after(function);
-    let fault = pulsar_body::body_fault(unknown, head, due, width, mask, body);
-    if fault != 0 {
-        return fault;
-    }
-    body_fields(function, mask, body)
-}
-
-fn status_fault(status: u8) -> u8
-    ensures { result ≡ first (status_faults status) }
+fn status_fault(status: u8) -> Result<(), Refusal>
+    ensures { result ≡ judged tt (first (status_faults status)) }
 {
     if bad_status(status) {
-        return 15;
+        return Err(Refusal::BadStatus);
     }
-    0
+    Ok(())
 }
 
-fn reply_faults(reply: Reply, mask: u32) -> u8
-    ensures { result ≡ first (field_faults reply mask) }
+fn status_fields(body: &[u8]) -> Result<(), Refusal>
+    ensures { result ≡ judged tt (first (status_rules body.now)) }
+{
+    status_fault(wire::byte_at(body, 0))?;
+    if not_three_zeros(body) {
+        return Err(Refusal::BadStatus);
+    }
+    Ok(())
+}
+
+fn zeros_fault(body: &[u8]) -> Result<(), Refusal>
+    ensures { result ≡ judged tt (first (zeros_rules body.now)) }
+{
+    if not_two_zeros(body) {
+        return Err(Refusal::BadStatus);
+    }
+    Ok(())
+}
+
+// The mask and the first date of an 06 reply, read or to be written.
+fn archive_faults(a: ArchiveReply) -> Result<(), Refusal>
+    ensures { result ≡ judged tt (first (archive_faults a.mask a.first)) }
+{
+    pulsar_body::one_fault(a.mask)?;
+    pulsar_body::date_fault(a.first)
+}
+
+pub fn body_fields(function: Function, mask: u32, body: &[u8]) -> Result<(), Refusal>
+    ensures { result ≡ judged tt (first (field_rules function mask body.now)) }
+{
+    match function {
+        Function::Error => Ok(()),
+        Function::Channels => pulsar_body::mask_fault(mask),
+        Function::ChannelsWritten => Ok(()),
+        Function::Clock => clock_fault(date::date_at(body, 0)),
+        Function::ClockSet => status_fields(body),
+        Function::Archive => archive_faults(crate::archive_of(body)),
+        Function::Parameter => Ok(()),
+        Function::ParameterWritten => zeros_fault(body),
+    }
+}
+
+pub fn reply_faults(reply: Reply, mask: u32) -> Result<(), Refusal>
+    ensures { result ≡ judged tt (first (field_faults reply mask)) }
 {
     match reply {
-        Reply::Error(_) => 0,
+        Reply::Error(_) => Ok(()),
         Reply::Channels => pulsar_body::mask_fault(mask),
-        Reply::ChannelsWritten(_) => 0,
+        Reply::ChannelsWritten(_) => Ok(()),
         Reply::Clock(d) => pulsar_body::date_fault(d),
-        Reply::NoClock => 0,
+        Reply::NoClock => Ok(()),
         Reply::ClockSet(status) => status_fault(status),
-        Reply::Archive(a) => {
-            let from = a.first;
-            archive_faults(a.mask, from)
-        }
-        Reply::Parameter => 0,
-        Reply::ParameterWritten => 0,
+        Reply::Archive(a) => archive_faults(a),
+        Reply::Parameter => Ok(()),
+        Reply::ParameterWritten => Ok(()),
     }
-}
-
-pub fn write_fault(reply: Reply, width: usize, mask: u32, values: &[u8], out: usize) -> u8
-    ensures { result ≡ first (writing_rules reply width mask values.now out) }
-{
-    let function = crate::function_of(reply);
-    let early = pulsar_body::values_fault(values_after(function), width, mask, values);
-    if early != 0 {
-        return early;
-    }
-    let fault = reply_faults(reply, mask);
-    if fault != 0 {
-        return fault;
-    }
-    pulsar_body::room_fault(head_length(function) + values.len(), out)
 }

@@ -1,22 +1,17 @@
 -- The stores of the writer, one after another, are the layout.
 -- Assumes nothing.
-use mathlib.Core.Path.{◌≡◌, sym, ap, ◌∙◌}
+use mathlib.Core.Path.{◌≡◌, ap, ◌∙◌}
 use mathlib.Core.List.{List, ◌++◌, append_assoc}
-use Prim.Native.Nat.{ℕ, ◌≤◌}
+use Prim.Native.Nat.{ℕ}
 use lib.ListN.{length, length-append}
 use lib.Seq.{sets}
 use Rattle.wire.specs.Numbers.{le}
-use Rattle.wire.specs.Refusal.{first}
 use Rattle.wire.proofs.Numbers.{length_le}
 use Rattle.wire.proofs.Writing.{sets_then}
 use Rattle.archive.specs.Archive.{type_number}
 use Rattle.date.specs.Date.{date_bytes}
-use Rattle.pulsar_body.proofs.RoundTrip.{writing_fits}
-use Rattle.pulsar_request.specs.Layout.{archive_bytes, head_bytes, function_of, values_after, values_mask, request_bytes}
-use Rattle.pulsar_request.specs.Writing.{field_faults, writing_rules}
+use Rattle.pulsar_request.specs.Layout.{archive_bytes}
 use Rattle.pulsar_request.specs.declared.ArchiveRequest.{ArchiveRequest}
-use Rattle.pulsar_request.specs.declared.Request.{Request}
-use Rattle.pulsar_request.proofs.Cases.{numbered_faults}
 
 pub archive_stored : (out o₁ o₂ o₃ o₄ : List ℕ) (a : ArchiveRequest) (t : ℕ)
     → o₁ ≡ sets out 0 (le 4 a.mask) → t ≡ type_number a.kind → o₂ ≡ sets o₁ 4 (le 2 t)
@@ -33,11 +28,3 @@ archive_stored out o₁ o₂ o₃ o₄ a t e₁ et e₂ e₃ e₄ =
     let two : o₂ ≡ sets out 0 (m ++ k) = e₂ ∙ ap (λ (n : ℕ). sets o₁ 4 (le 2 n)) et ∙ ap (λ (o : List ℕ). sets o 4 k) e₁ ∙ sets_then out m k 4 (length_le 4 a.mask) in
     let three : o₃ ≡ sets out 0 (m ++ k ++ f) = e₃ ∙ ap (λ (o : List ℕ). sets o 6 f) two ∙ sets_then out (m ++ k) f 6 six in
     e₄ ∙ ap (λ (o : List ℕ). sets o 12 l) three ∙ sets_then out (m ++ k ++ f) l 12 twelve ∙ ap (sets out 0) regroup
-
--- an arm of the match on the request
-pub as_head : (q p : Request) (out out' : List ℕ) → q ≡ p → out' ≡ sets out 0 (head_bytes p) → out' ≡ sets out 0 (head_bytes q)
-as_head q p out out' e eo = eo ∙ sym (ap (λ (x : Request). sets out 0 (head_bytes x)) e)
-
--- what is not refused has room
-pub request_fits : (q : Request) (width : ℕ) (vs : List ℕ) (room r : ℕ) → r ≡ first (writing_rules q width vs room) → r ≡ 0 → length (request_bytes q vs) ≤ room
-request_fits q width vs room r = writing_fits (values_after (function_of q)) width (values_mask q) vs (field_faults q) (length (request_bytes q vs)) room r (numbered_faults q)

@@ -3,7 +3,7 @@
 use mathlib.Core.Path.{sym, ◌∙◌}
 use mathlib.Core.List.{List}
 use Prim.Native.Nat.{ℕ}
-use Rattle.wire.specs.declared.Written.{Written}
+use Rattle.wire.specs.Writes.{Written}
 use Rattle.wire.specs.Unique.{Unique}
 use Rattle.wire.proofs.Writes.{writes_once}
 use Rattle.pulsar_request.proofs.read_request.Reads as read-request

@@ -1,11 +1,12 @@
 -- The bodies of requests. Many-byte fields are least significant first.
 -- Assumes nothing.
-use Rattle.std.specs.Prelude.{ℕ, cond, List, [], ◌++◌, eqb, drop}
+use Rattle.std.specs.Prelude.{ℕ, cond, List, [], ◌++◌, eqb, drop, Option, None, Some}
 use Rattle.wire.specs.Numbers.{le, of_le, field}
 use Rattle.archive.specs.Archive.{type_from, type_number}
 use Rattle.date.specs.Date.{date_bytes, date_of}
 use Rattle.date.specs.declared.DateTime.{DateTime}
 use Rattle.pulsar_body.specs.Fields.{mask_of, date_in}
+use Rattle.pulsar_body.specs.declared.Form.{Form}
 use Rattle.pulsar_body.specs.declared.Values.{Values}
 use Rattle.pulsar_body.specs.declared.Values.TheVariants.{Nothing, Channels, Eight}
 use Rattle.pulsar_request.specs.declared.ArchiveRequest.{ArchiveRequest}
@@ -16,15 +17,15 @@ use Rattle.pulsar_request.specs.declared.Function.TheVariants as F
 
 -- ---- the functions
 
-abbrev pub function_from : ℕ → Function
+abbrev pub function_from : ℕ → Option Function
 function_from n =
-    cond (eqb n 0x01) F.ReadChannels
-    (cond (eqb n 0x02) F.WriteChannels
-    (cond (eqb n 0x04) F.ReadClock
-    (cond (eqb n 0x05) F.SetClock
-    (cond (eqb n 0x06) F.ReadArchive
-    (cond (eqb n 0x0A) F.ReadParameter
-    (cond (eqb n 0x0B) F.WriteParameter F.Unknown))))))
+    cond (eqb n 0x01) (Some F.ReadChannels)
+    (cond (eqb n 0x02) (Some F.WriteChannels)
+    (cond (eqb n 0x04) (Some F.ReadClock)
+    (cond (eqb n 0x05) (Some F.SetClock)
+    (cond (eqb n 0x06) (Some F.ReadArchive)
+    (cond (eqb n 0x0A) (Some F.ReadParameter)
+    (cond (eqb n 0x0B) (Some F.WriteParameter) None))))))
 
 abbrev pub function_of : Request → Function
 function_of (Q.ReadChannels mask) = F.ReadChannels
@@ -43,7 +44,6 @@ function_number F.SetClock = 0x05
 function_number F.ReadArchive = 0x06
 function_number F.ReadParameter = 0x0A
 function_number F.WriteParameter = 0x0B
-function_number F.Unknown = 0
 
 -- ---- the bytes of a request: its head, and the value bytes
 
@@ -73,7 +73,6 @@ head_length F.SetClock = 6
 head_length F.ReadArchive = 18
 head_length F.ReadParameter = 2
 head_length F.WriteParameter = 2
-head_length F.Unknown = 0
 
 -- the value bytes that follow it: "mask and values", "index, 8 bytes"
 abbrev pub values_after : Function → Values
@@ -84,7 +83,9 @@ values_after F.SetClock = Nothing
 values_after F.ReadArchive = Nothing
 values_after F.ReadParameter = Nothing
 values_after F.WriteParameter = Eight
-values_after F.Unknown = Nothing
+
+abbrev pub form_of : Function → Form
+form_of f = record { head = head_length f; values = values_after f }
 
 -- the mask of the values, 0 where there are none
 abbrev pub values_mask : Request → ℕ
@@ -113,7 +114,7 @@ index_of s = of_le (field s 0 2)
 abbrev pub archive_of : List ℕ → ArchiveRequest
 archive_of s = record { mask = mask_of s; kind = type_from (type_of s); first = first_of s; last = last_of s }
 
--- "A decoded request is one of seven kinds": the request that a body says (what is unknown has been refused before)
+-- "A decoded request is one of seven kinds": the request that a body says
 abbrev pub request_of : Function → List ℕ → Request
 request_of F.ReadChannels s = Q.ReadChannels (mask_of s)
 request_of F.WriteChannels s = Q.WriteChannels (mask_of s)
@@ -122,7 +123,6 @@ request_of F.SetClock s = Q.SetClock (date_in s)
 request_of F.ReadArchive s = Q.ReadArchive (archive_of s)
 request_of F.ReadParameter s = Q.ReadParameter (index_of s)
 request_of F.WriteParameter s = Q.WriteParameter (index_of s)
-request_of F.Unknown s = Q.ReadClock
 
 -- the value bytes: what follows the head
 abbrev pub values_of : Request → List ℕ → List ℕ

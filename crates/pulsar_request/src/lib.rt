@@ -7,16 +7,19 @@ mod judge;
 ghost use Rattle.std.specs.Prelude.{◌≡◌, length};
 ghost use Rattle.std.proofs.lemmas.List.Edits.{sets};
 ghost use Rattle.wire.specs.Writes.{Writes};
+ghost use Rattle.wire.proofs.Bools.{T_true};
 ghost use Rattle.wire.specs.Refusal.{first};
-ghost use Rattle.pulsar_request.specs.Layout.{function_from, function_of, function_number, archive_of, request_of, archive_bytes, head_bytes, request_bytes, values_of};
+ghost use Rattle.pulsar_request.specs.Layout.{function_from, function_of, function_number, form_of, archive_of, request_of, archive_bytes, head_bytes, request_bytes, values_of};
 ghost use Rattle.pulsar_request.specs.Reading.{read_request};
-ghost use Rattle.pulsar_request.specs.Writing.{writing_rules};
+ghost use Rattle.pulsar_request.specs.Writing.{field_faults, writing_rules};
+ghost use Rattle.pulsar_request.specs.Heads.{head_few, length_head, numbered_faults};
 
 use archive::ArchiveKind;
 use date::DateTime;
-use wire::Written;
+use pulsar_body::{Body, Form, Formed, Values};
+use wire::{Refusal, Written};
 
-#[derive(Clone, Copy)]
+#[derive(Clone, Copy, Debug, PartialEq, Eq)]
 pub struct ArchiveRequest {
     pub mask: u32,
     pub kind: ArchiveKind,
@@ -24,7 +27,7 @@ pub struct ArchiveRequest {
     pub last: DateTime,
 }
 
-#[derive(Clone, Copy)]
+#[derive(Clone, Copy, Debug, PartialEq, Eq)]
 pub enum Request {
     // 01: the mask.
     ReadChannels(u32),
@@ -42,37 +45,48 @@ pub enum Request {
     WriteParameter(u16),
 }
 
-#[derive(Clone, Copy)]
-pub enum RequestRead {
-    Request(Request),
-    Refused(u8),
-}
-
-// The functions that a request may have.
-#[derive(Clone, Copy)]
+// The functions that a request may have, and their numbers.
+#[derive(Clone, Copy, Debug, PartialEq, Eq)]
 pub enum Function {
-    ReadChannels,
-    WriteChannels,
-    ReadClock,
-    SetClock,
-    ReadArchive,
-    ReadParameter,
-    WriteParameter,
-    Unknown,
+    ReadChannels = 0x01,
+    WriteChannels = 0x02,
+    ReadClock = 0x04,
+    SetClock = 0x05,
+    ReadArchive = 0x06,
+    ReadParameter = 0x0A,
+    WriteParameter = 0x0B,
 }
 
-fn function_from(number: u8) -> Function
+// None of a number that is no function: `body_fault` refuses it in its turn, 10 after 1, and so it is no TryFrom with a refusal.
+fn function_from(number: u8) -> Option<Function>
     ensures { result ≡ function_from number }
 {
     match number {
-        0x01 => Function::ReadChannels,
-        0x02 => Function::WriteChannels,
-        0x04 => Function::ReadClock,
-        0x05 => Function::SetClock,
-        0x06 => Function::ReadArchive,
-        0x0A => Function::ReadParameter,
-        0x0B => Function::WriteParameter,
-        _ => Function::Unknown,
+        0x01 => Some(Function::ReadChannels),
+        0x02 => Some(Function::WriteChannels),
+        0x04 => Some(Function::ReadClock),
+        0x05 => Some(Function::SetClock),
+        0x06 => Some(Function::ReadArchive),
+        0x0A => Some(Function::ReadParameter),
+        0x0B => Some(Function::WriteParameter),
+        _ => None,
+    }
+}
+
+impl Formed for Function {
+    ghost the_form = { form_of };
+
+    fn form(self) -> Form {
+        let (head, values) = match self {
+            Function::ReadChannels => (4, Values::Nothing),
+            Function::WriteChannels => (4, Values::Channels),
+            Function::ReadClock => (0, Values::Nothing),
+            Function::SetClock => (6, Values::Nothing),
+            Function::ReadArchive => (18, Values::Nothing),
+            Function::ReadParameter => (2, Values::Nothing),
+            Function::WriteParameter => (2, Values::Eight),
+        };
+        Form { head, values }
     }
 }
 
@@ -87,7 +101,6 @@ fn archive_of(body: &[u8]) -> ArchiveRequest
     }
 }
 
-// What an unknown function's body says is not asked: it has been refused.
 fn request_of(function: Function, body: &[u8]) -> Request
     ensures { result ≡ request_of function body.now }
 {
@@ -99,81 +112,91 @@ fn request_of(function: Function, body: &[u8]) -> Request
         Function::ReadArchive => Request::ReadArchive(archive_of(body)),
         Function::ReadParameter => Request::ReadParameter(wire::le16_at(body, 0)),
         Function::WriteParameter => Request::WriteParameter(wire::le16_at(body, 0)),
-        Function::Unknown => Request::ReadClock,
     }
 }
 
 // `function` is the frame's, `width` the bytes of a value.
-pub fn read_request(function: u8, width: usize, body: &[u8]) -> RequestRead
+pub fn read_request(function: u8, width: usize, body: &[u8]) -> Result<Request, Refusal>
     ensures { result ≡ read_request function width body.now }
 {
-    let asked = function_from(function);
-    let refusal = judge::read_fault(asked, width, body);
-    if refusal != 0 {
-        return RequestRead::Refused(refusal);
-    }
-    RequestRead::Request(request_of(asked, body))
+    let mask = wire::le32_at(body, 0);
+    let asked = pulsar_body::body_fault(function_from(function), width, mask, body)?;
+    judge::body_fields(asked, body)?;
+    Ok(request_of(asked, body))
 }
 
-fn function_of(request: Request) -> Function
-    ensures { result ≡ function_of request }
-{
-    match request {
-        Request::ReadChannels(_) => Function::ReadChannels,
-        Request::WriteChannels(_) => Function::WriteChannels,
-        Request::ReadClock => Function::ReadClock,
-        Request::SetClock(_) => Function::SetClock,
-        Request::ReadArchive(_) => Function::ReadArchive,
-        Request::ReadParameter(_) => Function::ReadParameter,
-        Request::WriteParameter(_) => Function::WriteParameter,
+impl From<Request> for Function {
+    ghost from_gives = { λ request f. f ≡ function_of request };
+
+    fn from(request: Request) -> Function {
+        match request {
+            Request::ReadChannels(_) => Function::ReadChannels,
+            Request::WriteChannels(_) => Function::WriteChannels,
+            Request::ReadClock => Function::ReadClock,
+            Request::SetClock(_) => Function::SetClock,
+            Request::ReadArchive(_) => Function::ReadArchive,
+            Request::ReadParameter(_) => Function::ReadParameter,
+            Request::WriteParameter(_) => Function::WriteParameter,
+        }
     }
 }
 
-// The function of a request, as its frame bears it.
+// The function of a request, as its frame bears it. A From would have to name what the number is of.
 pub fn request_function(request: Request) -> u8
     ensures { result ≡ function_number (function_of request) }
 {
-    match request {
-        Request::ReadChannels(_) => 0x01,
-        Request::WriteChannels(_) => 0x02,
-        Request::ReadClock => 0x04,
-        Request::SetClock(_) => 0x05,
-        Request::ReadArchive(_) => 0x06,
-        Request::ReadParameter(_) => 0x0A,
-        Request::WriteParameter(_) => 0x0B,
-    }
+    Function::from(request) as u8
 }
 
 // The value bytes of a body that was read as this request: those of an 02 request, and the eight of an 0B request.
 pub fn request_values(request: Request, body: &[u8]) -> &[u8]
     ensures { result.now ≡ values_of request body.now }
 {
-    wire::rest(body, judge::head_length(function_of(request)))
+    wire::rest(body, request.form().head)
 }
 
 fn put_archive(a: ArchiveRequest, out: &mut [u8])
     ensures { out.new ≡ sets out.old 0 (archive_bytes a) }
 {
-    let kind = a.kind;
-    let first = a.first;
-    let last = a.last;
     wire::put_le32(out, 0, a.mask);
-    wire::put_le16(out, 4, archive::type_number(kind) as u16);
-    date::put_date(out, 6, first);
-    date::put_date(out, 12, last);
+    wire::put_le16(out, 4, u8::from(a.kind) as u16);
+    date::put_date(out, 6, a.first);
+    date::put_date(out, 12, a.last);
 }
 
-fn put_head(request: Request, out: &mut [u8])
-    ensures { out.new ≡ sets out.old 0 (head_bytes request) }
-{
-    match request {
-        Request::ReadChannels(mask) => wire::put_le32(out, 0, mask),
-        Request::WriteChannels(mask) => wire::put_le32(out, 0, mask),
-        Request::ReadClock => (),
-        Request::SetClock(d) => date::put_date(out, 0, d),
-        Request::ReadArchive(a) => put_archive(a, out),
-        Request::ReadParameter(index) => wire::put_le16(out, 0, index),
-        Request::WriteParameter(index) => wire::put_le16(out, 0, index),
+impl Formed for Request {
+    ghost the_form = { λ request. form_of (function_of request) };
+
+    fn form(self) -> Form {
+        Function::from(self).form()
+    }
+}
+
+impl Body for Request {
+    ghost faults = { λ request mask. field_faults request };
+
+    ghost head = { head_bytes };
+
+    ghost faults_numbered = { λ request mask. T_true _ (numbered_faults request) };
+
+    ghost head_length = { length_head };
+
+    ghost head_few = { λ request. head_few (function_of request) };
+
+    fn fields_fault(self, _mask: u32) -> Result<(), Refusal> {
+        judge::request_faults(self)
+    }
+
+    fn put_head(self, out: &mut [u8]) {
+        match self {
+            Request::ReadChannels(mask) => wire::put_le32(out, 0, mask),
+            Request::WriteChannels(mask) => wire::put_le32(out, 0, mask),
+            Request::ReadClock => (),
+            Request::SetClock(d) => date::put_date(out, 0, d),
+            Request::ReadArchive(a) => put_archive(a, out),
+            Request::ReadParameter(index) => wire::put_le16(out, 0, index),
+            Request::WriteParameter(index) => wire::put_le16(out, 0, index),
+        }
     }
 }
 
@@ -182,12 +205,5 @@ fn put_head(request: Request, out: &mut [u8])
 pub fn write_request_body(request: Request, width: usize, values: &[u8], out: &mut [u8]) -> Written
     ensures { Writes (first (writing_rules request width values.now (length out.old))) (request_bytes request values.now) out.old result out.new }
 {
-    let refusal = judge::write_fault(request, width, values, out.len());
-    if refusal != 0 {
-        return Written::Refused(refusal);
-    }
-    let head = judge::head_length(function_of(request));
-    put_head(request, out);
-    wire::put_all(out, head, values);
-    Written::Length(head + values.len())
+    pulsar_body::write_body(request, width, judge::values_mask(request), values, out)
 }

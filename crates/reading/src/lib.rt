@@ -8,26 +8,22 @@ pub mod values;
 ghost use Rattle.std.specs.Prelude.{◌≡◌};
 ghost use Rattle.reading.specs.Reading.{width_of, number_of, kind_from, reading_of, bits_of, kind_of, is_absent, same, other_length, read_value};
 
-#[derive(Clone, Copy)]
+use wire::Refusal;
+
+#[derive(Clone, Copy, Debug, PartialEq, Eq)]
 pub enum Kind {
-    F32,
-    F64,
-    U32,
-    U64,
+    F32 = 0,
+    F64 = 1,
+    U32 = 2,
+    U64 = 3,
 }
 
-#[derive(Clone, Copy)]
+#[derive(Clone, Copy, Debug, PartialEq, Eq)]
 pub enum Reading {
     F32(u32),
     F64(u64),
     U32(u32),
     U64(u64),
-}
-
-#[derive(Clone, Copy)]
-pub enum ValueRead {
-    Value(Reading),
-    Refused(u8),
 }
 
 // How many bytes a value of the kind has.
@@ -43,18 +39,15 @@ pub fn width_of(kind: Kind) -> usize
 }
 
 // A kind's number, as the card has it.
-pub fn number_of(kind: Kind) -> u8
-    ensures { result ≡ number_of kind }
-{
-    match kind {
-        Kind::F32 => 0,
-        Kind::F64 => 1,
-        Kind::U32 => 2,
-        Kind::U64 => 3,
+impl From<Kind> for u8 {
+    ghost from_gives = { λ kind n. n ≡ number_of kind };
+
+    fn from(kind: Kind) -> u8 {
+        kind as u8
     }
 }
 
-// The kind of a number of two bits.
+// The kind of a number of two bits. It answers every number, as its clause says, which a TryFrom would not.
 pub fn kind_from(number: u8) -> Kind
     ensures { result ≡ kind_from number }
 {
@@ -116,7 +109,7 @@ pub fn is_absent(r: Reading) -> bool
 pub fn is_same(a: Reading, b: Reading) -> bool
     ensures { result ≡ same a b }
 {
-    (number_of(kind_of(a)) == number_of(kind_of(b))) & (bits(a) == bits(b))
+    a == b
 }
 
 fn other_length(kind: Kind, bytes: &[u8]) -> bool
@@ -126,11 +119,11 @@ fn other_length(kind: Kind, bytes: &[u8]) -> bool
 }
 
 // From a kind and the value's own bytes.
-pub fn read_value(kind: Kind, bytes: &[u8]) -> ValueRead
+pub fn read_value(kind: Kind, bytes: &[u8]) -> Result<Reading, Refusal>
     ensures { result ≡ read_value kind bytes.now }
 {
     if other_length(kind, bytes) {
-        return ValueRead::Refused(11);
+        return Err(Refusal::BadBody);
     }
-    ValueRead::Value(of_bits(kind, wire::le64_at(bytes, 0)))
+    Ok(of_bits(kind, wire::le64_at(bytes, 0)))
 }

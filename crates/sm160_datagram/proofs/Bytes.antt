@@ -15,7 +15,7 @@ use Rattle.wire.specs.Each.{Bytes}
 use Rattle.wire.specs.Numbers.{le, digits, of_le, field}
 use Rattle.wire.proofs.Bools.{or_neither, neither_or}
 use Rattle.wire.proofs.Each.{each_append, each_take, each_drop}
-use Rattle.wire.proofs.Refusal.{first_none, none_first}
+use Rattle.wire.proofs.Rules.{first_none, none_first}
 use Rattle.wire.proofs.Numbers.{length_le, of_le_le, of_le_lt, le_bytes}
 use Rattle.wire.proofs.Fields.{length_field, field_bytes, field_append, field_take, number_at, number_again}
 use Rattle.sm160_datagram.specs.Layout.{opening_bytes, covered_bytes, closing_bytes, datagram_bytes, type_of, flag_of, options_length_of, data_length_of, crc_of, covered_of, crc_due, options_of, data_of}

@@ -3,16 +3,16 @@
 use mathlib.Core.Path.{◌≡◌, refl}
 use mathlib.Core.List.{List, ◌++◌}
 use Prim.Native.Nat.{ℕ}
-use Rattle.wire.specs.Refusal.{Rule, first, NoneHolds, FirstInOrder}
-use Rattle.wire.specs.Writes.{told_written}
-use Rattle.wire.specs.declared.Written.{Written}
+use Rattle.wire.specs.Refusal.{Rule, NoneHolds, FirstInOrder}
+use Rattle.std.specs.Prelude.{Ok}
+use Rattle.wire.specs.Answer.{refuse}
+use Rattle.wire.specs.Writes.{Written, told_written}
 use Rattle.wire.proofs.Answer.{answer_first}
-use Rattle.wire.proofs.Refusal.{refusal_law, found, passed, none_append, none_both, first_none, none_first}
+use Rattle.wire.proofs.Rules.{refusal_law, none_append, none_both, first_none, none_first}
 use Rattle.wire.proofs.Writes.{written_first}
 use Rattle.sm160_datagram.specs.Layout.{type_of}
 use Rattle.sm160_datagram.specs.Reading.{datagram_rules, datagram_fault, read_datagram, told_datagram_read}
 use Rattle.sm160_datagram.specs.Writing.{write_rules, WritesDatagram}
-use Rattle.sm160_datagram.specs.declared.DatagramRead.TheVariants.{Datagram, Refused}
 use Rattle.sm160_datagram.specs.Layout.{datagram_bytes}
 
 pub datagram_fault_first : (d : List ℕ) → FirstInOrder (datagram_rules d) (datagram_fault d)
@@ -21,23 +21,15 @@ datagram_fault_first d = refusal_law (datagram_rules d) tt
 
 pub read_datagram_first : (d : List ℕ) → FirstInOrder (datagram_rules d) (told_datagram_read (read_datagram d)).number
 unfolding read_datagram datagram_fault
-read_datagram_first d = answer_first Refused (Datagram (type_of d)) (λ r. (told_datagram_read r).number) (λ n. refl) (datagram_rules d) tt refl
+read_datagram_first d = answer_first refuse (Ok (type_of d)) (λ r. (told_datagram_read r).number) (λ n. refl) (datagram_rules d) tt refl
 
 pub write_datagram_first : (type : ℕ) (options content out : List ℕ) (r : Written) (out' : List ℕ) → WritesDatagram type options content out r out'
     → FirstInOrder (write_rules options content out) (told_written r).number
 write_datagram_first type options content out r out' w =
     written_first (write_rules options content out) (datagram_bytes type options content) out r out' tt w
 
--- ---- among other rules: n is what the code's judge answered
+-- ---- among other rules
 module _ (d : List ℕ) (rs : List Rule) where
-  pub datagram_found : (n : ℕ) → n ≡ datagram_fault d → (n ≡ 0 → ⊥) → n ≡ first (datagram_rules d ++ rs)
-  unfolding datagram_fault
-  datagram_found = found (datagram_rules d) rs
-
-  pub datagram_passed : (n k : ℕ) → n ≡ datagram_fault d → n ≡ 0 → k ≡ first rs → k ≡ first (datagram_rules d ++ rs)
-  unfolding datagram_fault
-  datagram_passed = passed (datagram_rules d) rs tt
-
   -- where none holds, d is a datagram and none of the others holds; and back
   pub datagram_none : NoneHolds (datagram_rules d ++ rs) → (datagram_fault d ≡ 0) × NoneHolds rs
   unfolding datagram_fault

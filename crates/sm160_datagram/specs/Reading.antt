@@ -1,12 +1,12 @@
 -- What a datagram is judged by, and what reading it answers.
 -- Assumes nothing.
-use Rattle.std.specs.Prelude.{ℕ, ◌+◌, Bool, not, ◌||◌, List, [], ◌∷◌, ltb, eqb, length}
+use Rattle.std.specs.Prelude.{ℕ, ◌+◌, Bool, not, ◌||◌, List, [], ◌∷◌, ltb, eqb, length, Result, Ok, Err}
 use Rattle.wire.specs.Refusal.{Rule, ◌when◌, first}
-use Rattle.wire.specs.Answer.{answered}
+use Rattle.wire.specs.Answer.{judged}
+use Rattle.wire.specs.Numbered.{number_of}
+use Rattle.wire.specs.declared.refusals.Refusal.{Refusal}
 use Rattle.wire.specs.Told.{Told, accepted, refused}
 use Rattle.sm160_datagram.specs.Layout.{type_of, flag_of, options_length_of, data_length_of, crc_of, crc_due}
-use Rattle.sm160_datagram.specs.declared.DatagramRead.{DatagramRead}
-use Rattle.sm160_datagram.specs.declared.DatagramRead.TheVariants.{Datagram, Refused}
 
 -- n bytes, and the two lengths that they tell, which are summed as numbers: no sum wraps
 abbrev pub differ : ℕ → ℕ → ℕ → Bool
@@ -37,9 +37,9 @@ unfoldable pub datagram_fault : List ℕ → ℕ
 datagram_fault d = first (datagram_rules d)
 
 -- "Read and write the envelope": the answer is the type
-unfoldable pub read_datagram : List ℕ → DatagramRead
-read_datagram d = answered Refused (Datagram (type_of d)) (datagram_fault d)
+unfoldable pub read_datagram : List ℕ → Result ℕ Refusal
+read_datagram d = judged (type_of d) (datagram_fault d)
 
-abbrev pub told_datagram_read : DatagramRead → Told
-told_datagram_read (Datagram type) = accepted (type ∷ [])
-told_datagram_read (Refused n) = refused n
+abbrev pub told_datagram_read : Result ℕ Refusal → Told
+told_datagram_read (Ok type) = accepted (type ∷ [])
+told_datagram_read (Err e) = refused (number_of e)

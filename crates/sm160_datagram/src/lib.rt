@@ -2,77 +2,114 @@
 // What each function answers is in specs/.
 #![tactic(auto)]
 
-ghost use Rattle.std.specs.Prelude.{◌≡◌, ◌++◌, ◌+◌, ◌≤◌, length, take, drop};
+ghost use Rattle.std.specs.Prelude.{◌≡◌, ℕ, List, ◌++◌, ◌+◌, ◌≤◌, length, get_or, take, drop};
 ghost use Rattle.std.proofs.lemmas.List.Edits.{sets};
 ghost use Rattle.wire.specs.Numbers.{of_le, field, over};
+ghost use Rattle.wire.specs.Answer.{judged};
 ghost use Rattle.sm160_datagram.specs.Layout.{crc_due, options_of, data_of, opening_bytes, closing_bytes, datagram_bytes};
 ghost use Rattle.sm160_datagram.specs.Reading.{differ, bad_lengths, wrong_crc, compressed, datagram_fault, read_datagram};
 ghost use Rattle.sm160_datagram.specs.Writing.{WritesDatagram};
 
-use wire::Written;
-
-#[derive(Clone, Copy)]
-pub enum DatagramRead {
-    // Its type; options and data are `options_of` and `data_of`.
-    Datagram(u8),
-    // The paper's number.
-    Refused(u8),
-}
+use std::marker::Model;
+use wire::{Refusal, Written};
 
 // ---- two stretches as one
 
-// The bytes of both from a place on, over the front of out, as far as it goes: for a number that the cut goes through.
-fn gather(held: &[u8], part: &[u8], at: usize, out: &mut [u8])
-    ensures { out.new ≡ sets out.old 0 (drop at (held.now ++ part.now)) }
-{
-    wire::put_all(out, 0, wire::rest(held, at));
-    wire::put_all(
-        out,
-        wire::minus(held.len(), at),
-        wire::rest(part, wire::minus(at, held.len())),
-    );
+// Bytes that are held and a part that follows them, as if joined.
+#[derive(Drop)]
+struct Joined<'a> {
+    held: &'a [u8],
+    part: &'a [u8],
 }
 
-fn le32_in(held: &[u8], part: &[u8], at: usize) -> u32
-    ensures { result ≡ of_le (field (held.now ++ part.now) at 4) }
-{
-    let left = wire::minus(held.len(), at);
-    if 4 <= left {
-        return wire::le32_at(held, at);
-    }
-    if left == 0 {
-        return wire::le32_at(part, wire::minus(at, held.len()));
-    }
-    let mut bytes = [0u8; 4];
-    gather(held, part, at, &mut bytes);
-    wire::le32_at(&bytes, 0)
+impl<'a> Model for Joined<'a> {
+    ghost Value = { List ℕ };
+
+    ghost view = { λ j. j.held.now ++ j.part.now };
 }
 
-fn le64_in(held: &[u8], part: &[u8], at: usize) -> u64
-    ensures { result ≡ of_le (field (held.now ++ part.now) at 8) }
-{
-    let left = wire::minus(held.len(), at);
-    if 8 <= left {
-        return wire::le64_at(held, at);
+impl<'a> Joined<'a> {
+    fn len(&self) -> usize
+        ensures { result ≡ length self.now }
+    {
+        self.held.len() + self.part.len()
     }
-    if left == 0 {
-        return wire::le64_at(part, wire::minus(at, held.len()));
+
+    fn byte_at(&self, at: usize) -> u8
+        ensures { result ≡ get_or self.now at 0 }
+    {
+        if at < self.held.len() {
+            self.held[at]
+        } else {
+            wire::byte_at(self.part, at - self.held.len())
+        }
     }
-    let mut bytes = [0u8; 8];
-    gather(held, part, at, &mut bytes);
-    wire::le64_at(&bytes, 0)
-}
 
-// The CRC-32 that both must bear: over all before the data length, the held bytes first.
-fn crc_due(held: &[u8], part: &[u8]) -> u32
-    ensures { result ≡ crc_due (held.now ++ part.now) }
-{
-    let covered = wire::minus(held.len() + part.len(), 12);
-    let of_held = checksum::crc32_from(0, wire::front(held, covered));
-    checksum::crc32_from(of_held, wire::front(part, wire::minus(covered, held.len())))
-}
+    // The W bytes from a place on, for a number that the cut may go through.
+    fn field<const W: usize>(&self, at: usize) -> [u8; W]
+        ensures { result ≡ field self.now at W }
+    {
+        let mut bytes = [0u8; W];
+        wire::put_all(&mut bytes, 0, wire::rest(self.held, at));
+        wire::put_all(
+            &mut bytes,
+            wire::minus(self.held.len(), at),
+            wire::rest(self.part, wire::minus(at, self.held.len())),
+        );
+        bytes
+    }
 
-// ---- the conditions
+    // The CRC-32 that they must bear: over all before the data length, the held bytes first.
+    fn crc_due(&self) -> u32
+        ensures { result ≡ crc_due self.now }
+    {
+        let covered = wire::minus(self.len(), 12);
+        let of_held = checksum::crc32_from(0, wire::front(self.held, covered));
+        checksum::crc32_from(
+            of_held,
+            wire::front(self.part, wire::minus(covered, self.held.len())),
+        )
+    }
+
+    fn bad_lengths(&self) -> bool
+        ensures { result ≡ bad_lengths self.now }
+    {
+        let n = self.len();
+        lengths_differ(
+            n,
+            u32::from_le_bytes(self.field(2)),
+            u64::from_le_bytes(self.field(wire::minus(n, 12))),
+        )
+    }
+
+    fn wrong_crc(&self) -> bool
+        ensures { result ≡ wrong_crc self.now }
+    {
+        let at = wire::minus(self.len(), 4);
+        u32::from_le_bytes(self.field(at)) != self.crc_due()
+    }
+
+    fn is_compressed(&self) -> bool
+        ensures { result ≡ compressed self.now }
+    {
+        self.byte_at(1) != 0
+    }
+
+    fn judge(&self) -> Result<(), Refusal>
+        ensures { result ≡ judged tt (datagram_fault self.now) }
+    {
+        if self.bad_lengths() {
+            return Err(Refusal::BadLengths);
+        }
+        if self.wrong_crc() {
+            return Err(Refusal::WrongDatagramCrc);
+        }
+        if self.is_compressed() {
+            return Err(Refusal::Compressed);
+        }
+        Ok(())
+    }
+}
 
 // The lengths are taken off, one after the other, and not summed: a sum could wrap.
 fn lengths_differ(n: usize, options: u32, content: u64) -> bool
@@ -83,56 +120,21 @@ fn lengths_differ(n: usize, options: u32, content: u64) -> bool
     (n < 18) | (left < o) | (wire::minus(left, o) as u64 != content)
 }
 
-fn bad_lengths(held: &[u8], part: &[u8]) -> bool
-    ensures { result ≡ bad_lengths (held.now ++ part.now) }
+// The first rule of 37 to 39 that the held bytes and the part after them break, as if joined: they are lent apart, as a receiver has them.
+pub fn datagram_fault(held: &[u8], part: &[u8]) -> Result<(), Refusal>
+    ensures { result ≡ judged tt (datagram_fault (held.now ++ part.now)) }
 {
-    let n = held.len() + part.len();
-    lengths_differ(
-        n,
-        le32_in(held, part, 2),
-        le64_in(held, part, wire::minus(n, 12)),
-    )
-}
-
-fn wrong_crc(held: &[u8], part: &[u8]) -> bool
-    ensures { result ≡ wrong_crc (held.now ++ part.now) }
-{
-    let at = wire::minus(held.len() + part.len(), 4);
-    le32_in(held, part, at) != crc_due(held, part)
-}
-
-fn is_compressed(held: &[u8], part: &[u8]) -> bool
-    ensures { result ≡ compressed (held.now ++ part.now) }
-{
-    if 1 < held.len() {
-        return wire::byte_at(held, 1) != 0;
-    }
-    wire::byte_at(part, wire::minus(1, held.len())) != 0
-}
-
-// The number of the first rule of 37 to 39 that the held bytes and the part after them break, as if joined; 0 for none.
-pub fn datagram_fault(held: &[u8], part: &[u8]) -> u8
-    ensures { result ≡ datagram_fault (held.now ++ part.now) }
-{
-    if bad_lengths(held, part) {
-        return 37;
-    }
-    if wrong_crc(held, part) {
-        return 38;
-    }
-    if is_compressed(held, part) {
-        return 39;
-    }
-    0
+    let joined = Joined { held, part };
+    joined.judge()
 }
 
 // ---- read
 
 // The same of bytes in one stretch.
-pub fn fault_of(bytes: &[u8]) -> u8
-    ensures { result ≡ datagram_fault bytes.now }
+pub fn fault_of(bytes: &[u8]) -> Result<(), Refusal>
+    ensures { result ≡ judged tt (datagram_fault bytes.now) }
 {
-    datagram_fault(bytes, wire::front(bytes, 0))
+    datagram_fault(bytes, &[])
 }
 
 // The options, as a part of the bytes.
@@ -152,15 +154,12 @@ pub fn data_of(bytes: &[u8]) -> &[u8]
     )
 }
 
-pub fn read_datagram(bytes: &[u8]) -> DatagramRead
+// Its type; options and data are `options_of` and `data_of`.
+pub fn read_datagram(bytes: &[u8]) -> Result<u8, Refusal>
     ensures { result ≡ read_datagram bytes.now }
 {
-    let fault = fault_of(bytes);
-    if fault == 0 {
-        DatagramRead::Datagram(wire::byte_at(bytes, 0))
-    } else {
-        DatagramRead::Refused(fault)
-    }
+    fault_of(bytes)?;
+    Ok(wire::byte_at(bytes, 0))
 }
 
 // ---- written
@@ -200,12 +199,12 @@ pub fn write_datagram(kind: u8, options: &[u8], content: &[u8], out: &mut [u8]) 
     ensures { WritesDatagram kind options.now content.now out.old result out.new }
 {
     if 4_294_967_295 < options.len() {
-        return Written::Refused(37);
+        return Err(Refusal::BadLengths);
     }
     let n = options.len() + content.len() + 18;
     if out.len() < n {
-        return Written::Refused(16);
+        return Err(Refusal::NoRoom);
     }
     put_datagram(kind, options, content, out);
-    Written::Length(n)
+    Ok(n)
 }

@@ -1,16 +1,18 @@
 -- What the writer of a device line owes: its room, and its characters one after another.
 -- Assumes nothing.
 use mathlib.Core.Path.{◌≡◌, refl, sym, ap, ap₂, ◌∙◌}
-use mathlib.Core.Bool.{Bool, true, false, cond, ◌||◌}
+use mathlib.Core.Bool.{Bool, true, false, not, cond, ◌||◌}
 use mathlib.Core.List.{List, [], ◌∷◌, ◌++◌, append_assoc}
-use Prim.Native.Nat.{ℕ, suc, ◌+◌, ◌-◌, ◌≤◌, ◌<◌}
+use Prim.Native.Nat.{ℕ, suc, ◌+◌, ◌≤◌, ◌<◌}
 use native.Mathlib.Nat.{zero-add}
 use native.Mathlib.Omega.{arith}
 use lib.Dec.{ltb}
 use lib.ListN.{length, set, length-append}
 use lib.Seq.{sets}
 use borrow.Author.Tests.{ltb-true, ltb-false, lt-ltb, le-ltb}
+use Rattle.std.specs.Prelude.{Option, Some, None, is_some, SomeIff}
 use Rattle.wire.specs.Digits.{ascii}
+use Rattle.wire.specs.Refusal.{pick}
 use Rattle.wire.specs.Numbers.{over}
 use Rattle.wire.proofs.Writing.{sets_append, sets_then, sets_over}
 use Rattle.sm160_text.specs.Text.{ends_text, run, text_end}
@@ -106,25 +108,28 @@ module _ (d k s : List ℕ) where
 
   -- ---- the room, as the code counts it down
   module _ (room : ℕ) where
-    pub short : room < 21 + length d + length k + length s → true ≡ no_room d k s room
+    -- where something is left, even if it is 0, there is room
+    pub room_left : (r : Option ℕ) (v : ℕ) (b : Bool) → is_some r ≡ not b → SomeIff r (21 + length d + length k + length s ≤ room) v → b ≡ no_room d k s room
     unfolding no_room
-    short h = sym (lt-ltb room (length (device_bytes d k s)) (rw device_length h))
+    room_left None v true e h =
+        let over : room < 21 + length d + length k + length s = omega (arith, h) in
+        sym (lt-ltb room (length (device_bytes d k s)) (rw device_length over))
+    room_left None v false e h = absurd (let z : false ≡ true = e in cc)
+    room_left (Some x) v true e h = absurd (let z : true ≡ false = e in cc)
+    room_left (Some x) v false e h = sym (le-ltb room (length (device_bytes d k s)) (rw device_length h.0))
 
-    pub counted : 21 + length d + length k ≤ room → (left : ℕ) → left ≡ room - 21 - length d - length k → ltb left (length s) ≡ no_room d k s room
-    unfolding no_room
-    counted h left e = go (ltb left (length s)) refl
-      where
-        go : (x : Bool) → ltb left (length s) ≡ x → ltb left (length s) ≡ ltb room (length (device_bytes d k s))
-        go true w =
-            let less : left < length s = ltb-true _ _ w in
-            w ∙ sym (lt-ltb room (length (device_bytes d k s)) (rw device_length (omega arith)))
-        go false w =
-            let most : length s ≤ left = ltb-false _ _ w in
-            w ∙ sym (le-ltb room (length (device_bytes d k s)) (rw device_length (omega arith)))
-
-    pub has_room : false ≡ no_room d k s room → length (device_bytes d k s) ≤ room
+    has_room : false ≡ no_room d k s room → length (device_bytes d k s) ≤ room
     unfolding no_room
     has_room e = ltb-false _ _ (sym e)
+
+    pub fits : (b : Bool) → pick b 92 (pick (no_room d k s room) 16 0) ≡ 0 → length (device_bytes d k s) ≤ room
+    unfolding pick
+    fits true z = absurd (omega arith)
+    fits false z = go (no_room d k s room) refl z
+      where
+        go : (n : Bool) → no_room d k s room ≡ n → pick n 16 0 ≡ 0 → length (device_bytes d k s) ≤ room
+        go true e z = absurd (omega arith)
+        go false e z = has_room (sym e)
 
   pub stored_over : (out : List ℕ) → length (device_bytes d k s) ≤ length out → sets out 0 (device_bytes d k s) ≡ over out (device_bytes d k s)
   stored_over out h = sets_over out (device_bytes d k s) h

@@ -12,7 +12,7 @@ use Rattle.checksum.specs.Crc.{crc_from}
 use Rattle.checksum.proofs.Laws.{crc_from_lt}
 use Rattle.wire.specs.Each.{Bytes}
 use Rattle.wire.specs.Numbers.{le, digits, field}
-use Rattle.wire.proofs.Refusal.{first_none, none_first}
+use Rattle.wire.proofs.Rules.{first_none, none_first}
 use Rattle.wire.proofs.Bools.{or_neither}
 use Rattle.wire.proofs.Each.{each_append}
 use Rattle.wire.proofs.Numbers.{of_le_le, le_bytes}

@@ -1,3 +1,4 @@
+pub mod Flags
 pub mod Stores
 pub mod Limit
 pub mod Bytes

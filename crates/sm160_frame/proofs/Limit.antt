@@ -9,7 +9,7 @@ use borrow.Author.Tests.{ltb-false, eqb-false, le-ltb, ne_eqb}
 use lib.Dec.{eqb, ltb}
 use lib.ListN.{length}
 use Rattle.wire.proofs.Bools.{or_neither, neither_or}
-use Rattle.wire.proofs.Refusal.{first_none, none_first}
+use Rattle.wire.proofs.Rules.{first_none, none_first}
 use Rattle.sm160_frame.specs.Layout.{part_of}
 use Rattle.sm160_frame.specs.Reading.{LARGEST, bad_largest, frame_rules, frame_fault}
 

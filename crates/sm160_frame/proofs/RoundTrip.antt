@@ -1,6 +1,6 @@
 -- The round trips.
 -- Assumes nothing.
-use mathlib.Core.Path.{◌≡◌, refl, sym, ap, ◌∙◌, subst}
+use mathlib.Core.Path.{◌≡◌, sym, ap, ◌∙◌, subst}
 use mathlib.Core.Bool.{false}
 use mathlib.Core.List.{List}
 use Prim.Native.Nat.{ℕ, ◌+◌, ◌<◌, ◌≤◌}
@@ -10,16 +10,15 @@ use borrow.Author.Tests.{le-ltb}
 use Rattle.wire.specs.Each.{Bytes}
 use Rattle.wire.specs.Numbers.{over}
 use Rattle.wire.specs.Refusal.{first}
-use Rattle.wire.specs.declared.Written.{Written}
-use Rattle.wire.specs.declared.Written.TheVariants.{Length}
-use Rattle.wire.proofs.Answer.{answered_none, accepted_as}
-use Rattle.wire.proofs.Refusal.{first_none, none_first}
+use Rattle.std.specs.Prelude.{Ok}
+use Rattle.wire.specs.Writes.{Written}
+use Rattle.wire.proofs.Answer.{judged_none, accepted_as}
+use Rattle.wire.proofs.Rules.{first_none, none_first}
 use Rattle.wire.proofs.Writes.{wrote_front, wrote_all}
 use Rattle.sm160_frame.specs.Layout.{frame_bytes, part_of}
-use Rattle.sm160_frame.specs.Reading.{LARGEST, bad_flags, frame_rules, frame_fault, fields_of, read_frame, told_frame_read}
+use Rattle.sm160_frame.specs.Reading.{LARGEST, bad_flags, frame_rules, frame_fault, fields_of, read_frame}
 use Rattle.sm160_frame.specs.Writing.{write_rules, WritesFrame}
 use Rattle.sm160_frame.specs.declared.Fields.{Fields}
-use Rattle.sm160_frame.specs.declared.FrameRead.TheVariants.{Frame, Refused}
 use Rattle.sm160_frame.proofs.Stores.{length_frame, small_part}
 use Rattle.sm160_frame.proofs.Bytes.{small_flags, made_session, made_offset, made_flags, made_part, made_good, read_bytes}
 
@@ -27,8 +26,8 @@ use Rattle.sm160_frame.proofs.Bytes.{small_flags, made_session, made_offset, mad
 -- and their part is the part.
 pub frame_reads_back : (session offset flags : ℕ) (part out : List ℕ) (r : Written) (out' : List ℕ) (n : ℕ)
     → session < 65536 → offset < 4294967296 → Bytes part
-    → WritesFrame session offset flags part out r out' → r ≡ Length n
-    → (read_frame (take n out') ≡ Frame (record { session = session; offset = offset; flags = flags })) × (part_of (take n out') ≡ part)
+    → WritesFrame session offset flags part out r out' → r ≡ Ok n
+    → (read_frame (take n out') ≡ Ok (record { session = session; offset = offset; flags = flags })) × (part_of (take n out') ≡ part)
 unfolding read_frame
 frame_reads_back session offset flags part out r out' n hs ho hp w e =
     let bs = frame_bytes session offset flags part in
@@ -39,21 +38,18 @@ frame_reads_back session offset flags part out r out' n hs ho hp w e =
     let eo = made_offset session offset flags part ho in
     let ef = made_flags session offset flags part (omega arith) in
     let fields : fields_of bs ≡ record { session = session; offset = offset; flags = flags } = cc in (
-      ap read_frame done.1 ∙ answered_none Refused (Frame (fields_of bs)) (frame_fault LARGEST bs) (made_good session offset flags part LARGEST (omega (arith, small_part LARGEST part good.0)) hp good.0 good.1.0) ∙ ap Frame fields,
+      ap read_frame done.1 ∙ judged_none (fields_of bs) (frame_fault LARGEST bs) (made_good session offset flags part LARGEST (omega (arith, small_part LARGEST part good.0)) hp good.0 good.1.0) ∙ ap Ok fields,
       ap part_of done.1 ∙ made_part session offset flags part,
     )
 
 -- what reading has found where it answers fields
-accepted : (s : List ℕ) (f : Fields) → read_frame s ≡ Frame f → (frame_fault LARGEST s ≡ 0) × (fields_of s ≡ f)
+accepted : (s : List ℕ) (f : Fields) → read_frame s ≡ Ok f → (frame_fault LARGEST s ≡ 0) × (fields_of s ≡ f)
 unfolding read_frame
-accepted s f e =
-    let ok = accepted_as Refused (Frame (fields_of s)) (λ r. (told_frame_read r).number) (λ n. refl) (frame_fault LARGEST s) (Frame f) e refl in
-    let same : Frame (fields_of s) ≡ Frame f = ok.1 in
-    (ok.0, (cc))
+accepted s f e = accepted_as (fields_of s) _ f e
 
 -- What is accepted, written again by its fields where there is room, gives the same bytes.
-pub frame_writes_again : (s out : List ℕ) (f : Fields) (r : Written) (out' : List ℕ) → Bytes s → read_frame s ≡ Frame f → length s ≤ length out
-    → WritesFrame f.session f.offset f.flags (part_of s) out r out' → (r ≡ Length (length s)) × (out' ≡ over out s)
+pub frame_writes_again : (s out : List ℕ) (f : Fields) (r : Written) (out' : List ℕ) → Bytes s → read_frame s ≡ Ok f → length s ≤ length out
+    → WritesFrame f.session f.offset f.flags (part_of s) out r out' → (r ≡ Ok (length s)) × (out' ≡ over out s)
 unfolding frame_fault
 frame_writes_again s out f r out' bytes e room w =
     let ok = accepted s f e in
@@ -63,4 +59,4 @@ frame_writes_again s out f r out' bytes e room w =
     let flags : bad_flags f.flags ≡ false = ap (λ (g : Fields). bad_flags g.flags) (sym ok.1) ∙ h.1.1.1.1.0 in
     let long : length (part_of s) + 12 ≡ length s = sym (length_frame f.session f.offset f.flags (part_of s)) ∙ ap length same in
     let none = first_none (write_rules f.flags (part_of s) out) (h.1.1.0, (flags, (le-ltb (length out) (length (part_of s) + 12) (omega arith), tt))) in
-    subst (λ (l : List ℕ). (r ≡ Length (length l)) × (out' ≡ over out l)) same (wrote_all (first (write_rules f.flags (part_of s) out)) bs out r out' w none)
+    subst (λ (l : List ℕ). (r ≡ Ok (length l)) × (out' ≡ over out l)) same (wrote_all (first (write_rules f.flags (part_of s) out)) bs out r out' w none)

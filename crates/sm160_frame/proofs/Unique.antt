@@ -4,7 +4,7 @@ use mathlib.Core.Path.{sym, ◌∙◌}
 use mathlib.Core.List.{List}
 use Prim.Native.Nat.{ℕ}
 use Rattle.wire.specs.Unique.{Unique}
-use Rattle.wire.specs.declared.Written.{Written}
+use Rattle.wire.specs.Writes.{Written}
 use Rattle.wire.proofs.Writes.{writes_once}
 use Rattle.sm160_frame.proofs.session_of.Reads as session-of
 use Rattle.sm160_frame.proofs.offset_of.Reads as offset-of

@@ -1,6 +1,6 @@
 -- The SM160 frame.
 -- Assumes nothing.
-use Rattle.std.specs.Prelude.{ℕ, ◌/◌, ◌%◌, Bool, List, ◌∷◌, ◌++◌, eqb, length, take, drop}
+use Rattle.std.specs.Prelude.{ℕ, ◌/◌, ◌%◌, Bool, ◌||◌, List, ◌∷◌, ◌++◌, eqb, length, take, drop}
 use Rattle.checksum.specs.Crc.{crc_from}
 use Rattle.wire.specs.Numbers.{le, of_le, field}
 
@@ -15,6 +15,9 @@ START = 2
 -- its last: "The traffic shows END as 4"
 abbrev pub END : ℕ
 END = 4
+
+abbrev pub is_flag : ℕ → Bool
+is_flag flag = eqb flag QA || eqb flag START || eqb flag END
 
 -- a flag among flags
 abbrev pub has : ℕ → ℕ → Bool

@@ -1,13 +1,13 @@
 -- What a frame is judged by, and what reading it by its fields alone answers: the conditions of the refusal table, their order, and the answer.
 -- Assumes nothing.
-use Rattle.std.specs.Prelude.{ℕ, ◌+◌, Bool, not, ◌||◌, List, [], ◌∷◌, ltb, eqb, length}
+use Rattle.std.specs.Prelude.{ℕ, ◌+◌, Bool, not, ◌||◌, List, [], ◌∷◌, ltb, eqb, length, Result, Ok, Err}
 use Rattle.wire.specs.Refusal.{Rule, ◌when◌, first}
-use Rattle.wire.specs.Answer.{answered}
+use Rattle.wire.specs.Answer.{judged}
+use Rattle.wire.specs.Numbered.{number_of}
+use Rattle.wire.specs.declared.refusals.Refusal.{Refusal}
 use Rattle.wire.specs.Told.{Told, accepted, refused}
 use Rattle.sm160_frame.specs.Layout.{QA, START, END, has, session_of, offset_of, size_of, crc_of, crc_due, flags_of, part_of}
 use Rattle.sm160_frame.specs.declared.Fields.{Fields}
-use Rattle.sm160_frame.specs.declared.FrameRead.{FrameRead}
-use Rattle.sm160_frame.specs.declared.FrameRead.TheVariants.{Frame, Refused}
 
 -- the largest part of all: a frame's by its fields alone, and the largest that can be agreed on
 abbrev pub LARGEST : ℕ
@@ -56,9 +56,9 @@ frame_fault limit s = first (frame_rules limit s)
 abbrev pub fields_of : List ℕ → Fields
 fields_of s = record { session = session_of s; offset = offset_of s; flags = flags_of s }
 
-unfoldable pub read_frame : List ℕ → FrameRead
-read_frame s = answered Refused (Frame (fields_of s)) (frame_fault LARGEST s)
+unfoldable pub read_frame : List ℕ → Result Fields Refusal
+read_frame s = judged (fields_of s) (frame_fault LARGEST s)
 
-abbrev pub told_frame_read : FrameRead → Told
-told_frame_read (Frame f) = accepted (f.session ∷ f.offset ∷ f.flags ∷ [])
-told_frame_read (Refused n) = refused n
+abbrev pub told_frame_read : Result Fields Refusal → Told
+told_frame_read (Ok f) = accepted (f.session ∷ f.offset ∷ f.flags ∷ [])
+told_frame_read (Err e) = refused (number_of e)

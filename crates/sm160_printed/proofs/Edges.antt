@@ -2,6 +2,7 @@
 -- Assumes nothing.
 use mathlib.Core.Path.{◌≡◌, refl}
 use Rattle.wire.specs.Numbers.{digits, number, le, of_le, field}
+use Rattle.wire.specs.Numbered.{refusal as by_number}
 use Rattle.wire.specs.Refusal.{pick}
 use Rattle.wire.specs.Told.{AllHold}
 use Rattle.checksum.specs.Crc.{crc_bits, remainder}
@@ -16,5 +17,5 @@ unfolding digits le crc_bits remainder crc_due part_of frame_with frame_bytes
 printed_141 = refl
 
 pub receiver_edges_lem : AllHold receiver_edges
-unfolding digits number le of_le field pick crc_bits remainder crc_due part_of is_start is_end frame_with frame_bytes reached unfit refusal step
+unfolding digits number le of_le field pick crc_bits remainder crc_due part_of is_start is_end frame_with frame_bytes reached unfit refusal by_number step
 receiver_edges_lem = (refl, (refl, (refl, tt)))

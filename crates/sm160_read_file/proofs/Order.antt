@@ -1,37 +1,44 @@
 -- Demand 1 of the numbers that are told; and what holds where no rule does.
 -- Assumes nothing.
-use mathlib.Core.Path.{◌≡◌, refl, sym, ◌∙◌}
+use mathlib.Core.Path.{◌≡◌, refl, sym, ap, ◌∙◌}
 use mathlib.Core.Bool.{Bool, true, false}
 use mathlib.Core.List.{List, [], ◌∷◌}
-use Prim.Native.Nat.{ℕ, ◌+◌}
+use Prim.Native.Nat.{ℕ, ◌+◌, ◌≤◌}
 use native.Mathlib.Omega.{arith}
-use lib.Dec.{eqb}
+use lib.Dec.{eqb, ltb}
 use lib.ListN.{length}
-use borrow.Author.Tests.{eqb-true, eqb-false, eq-eqb, ne_eqb, not-false}
-use Rattle.wire.specs.Refusal.{◌when◌, first, FirstInOrder}
-use Rattle.wire.specs.Writes.{told_written}
-use Rattle.wire.specs.declared.Written.{Written}
-use Rattle.wire.proofs.Answer.{answer_first}
-use Rattle.wire.proofs.Refusal.{first_none, none_first, found, passed, hit, skip}
-use Rattle.wire.proofs.Writes.{written_first}
+use borrow.Author.Tests.{ltb-false, eqb-true, eqb-false, eq-eqb, ne_eqb, not-false}
+use Rattle.wire.specs.Refusal.{Rule, ◌when◌, pick, first, FirstInOrder}
+use Rattle.std.specs.Prelude.{Result, Ok, Err, IsErr, IsErrAnd}
+use Rattle.wire.specs.Answer.{judged, refuse}
+use Rattle.std.proofs.lemmas.Result.{err_from_is_err_and}
+use Rattle.wire.specs.Writes.{Written, Writes, told_written}
+use Rattle.wire.specs.declared.refusals.Refusal.{Refusal}
+use Rattle.wire.proofs.Answer.{answer_first, none_judged, accepted_as}
+use Rattle.wire.proofs.Rules.{first_none, none_first}
+use Rattle.wire.proofs.Writes.{written_first, writes_judged}
 use Rattle.sm160_datagram.specs.Layout.{type_of, options_of, data_of}
 use Rattle.sm160_datagram.specs.Reading.{datagram_fault}
 use Rattle.sm160_datagram.proofs.Bytes.{whole_length}
+use Rattle.sm160_datagram.proofs.Among.{handed_among, on_among}
 use Rattle.sm160_datagram.proofs.Order.{datagram_none, none_datagram}
-use Rattle.sm160_read_file.specs.Layout.{offset_of, size_of, status_of}
-use Rattle.sm160_read_file.specs.Reading.{other_type, type_rules, file_rules, request_rules, reply_rules, read_request, read_reply, told_request_read, told_reply_read}
-use Rattle.sm160_read_file.specs.Writing.{request_bytes, reply_bytes, write_rules, WritesRequest, WritesReply}
-use Rattle.sm160_read_file.specs.declared.RequestRead.TheVariants.{Request, Refused as BadRequest}
-use Rattle.sm160_read_file.specs.declared.ReplyRead.TheVariants.{Reply, Refused as BadReply}
+use Rattle.sm160_read_file.specs.Layout.{status_of}
+use Rattle.sm160_read_file.specs.Reading.{other_type, type_rules, file_rules, request_rules, reply_rules, request_of, read_request, read_reply, told_request_read, told_reply_read}
+use Rattle.sm160_read_file.specs.declared.Request.{Request}
+use Rattle.sm160_read_file.specs.Writing.{long_text, request_bytes, reply_bytes, write_rules, WritesRequest, WritesReply}
+
+-- a request of given fields
+abbrev pub request : ℕ → ℕ → Request
+request offset size = record { offset = offset; size = size }
 
 pub read_request_first : (d : List ℕ) → FirstInOrder (request_rules d) (told_request_read (read_request d)).number
 unfolding read_request
 read_request_first d =
-    answer_first BadRequest (Request (offset_of (options_of d)) (size_of (options_of d))) (λ r. (told_request_read r).number) (λ n. refl) (request_rules d) tt refl
+    answer_first refuse (Ok (request_of d)) (λ r. (told_request_read r).number) (λ n. refl) (request_rules d) tt refl
 
 pub read_reply_first : (d : List ℕ) → FirstInOrder (reply_rules d) (told_reply_read (read_reply d)).number
 unfolding read_reply
-read_reply_first d = answer_first BadReply (Reply (status_of (options_of d))) (λ r. (told_reply_read r).number) (λ n. refl) (reply_rules d) tt refl
+read_reply_first d = answer_first refuse (Ok (status_of (options_of d))) (λ r. (told_reply_read r).number) (λ n. refl) (reply_rules d) tt refl
 
 pub write_request_first : (offset size : ℕ) (name out : List ℕ) (r : Written) (out' : List ℕ) → WritesRequest offset size name out r out'
     → FirstInOrder (write_rules name (request_bytes offset size name) out) (told_written r).number
@@ -42,20 +49,17 @@ pub write_reply_first : (status : ℕ) (message content out : List ℕ) (r : Wri
 write_reply_first status message content out r out' w =
     written_first (write_rules message (reply_bytes status message content) out) (reply_bytes status message content) out r out' tt w
 
--- ---- n is what the code's judge of the envelope and the type answered
-module _ (type : ℕ) (bad : Bool) (d : List ℕ) (n : ℕ) (e : n ≡ first (type_rules type d)) where
-  pub refused_before : (n ≡ 0 → ⊥) → n ≡ first (file_rules type bad d)
-  refused_before some = found (type_rules type d) (36 when bad ∷ []) n e some
+-- ---- as the code asks it: first what it judges of the envelope and the type, and then whether anything is bad
+module _ {A : Type 0} (x : A) (type : ℕ) (bad : Bool) (d : List ℕ) where
+  pub refused_before : (r : Result A Refusal) (e : Refusal) → IsErr r × IsErrAnd r (λ d. d ≡ e) → Err e ≡ judged (tt {0}) (first (type_rules type d)) → r ≡ judged x (first (file_rules type bad d))
+  refused_before = handed_among x (tt {0}) (type_rules type d) (36 when bad ∷ [])
 
-  pub judged_bad : (b : Bool) → n ≡ 0 → b ≡ bad → b ≡ true → 36 ≡ first (file_rules type bad d)
-  judged_bad b z eb t = passed (type_rules type d) (36 when bad ∷ []) tt n 36 e z (hit b bad 36 0 eb t)
+  pub judged_after : (a : Result A Refusal) → Ok (tt {0}) ≡ judged (tt {0}) (first (type_rules type d)) → a ≡ judged x (pick bad 36 0) → a ≡ judged x (first (file_rules type bad d))
+  judged_after = on_among x (tt {0}) (type_rules type d) (36 when bad ∷ []) tt (tt {0})
 
-  pub judged_good : (b : Bool) → n ≡ 0 → b ≡ bad → b ≡ false → 0 ≡ first (file_rules type bad d)
-  judged_good b z eb t = passed (type_rules type d) (36 when bad ∷ []) tt n 0 e z (skip b bad 36 0 0 eb t refl)
-
--- and where it answered none, it is a datagram
-pub well_formed : (type : ℕ) (d : List ℕ) (n : ℕ) → n ≡ first (type_rules type d) → n ≡ 0 → datagram_fault d ≡ 0
-well_formed type d n e z = (datagram_none d (35 when other_type type d ∷ []) (none_first (type_rules type d) tt (sym e ∙ z))).0
+-- and where it refused nothing, it is a datagram
+pub well_formed : (type : ℕ) (d : List ℕ) → Ok (tt {0}) ≡ judged (tt {0}) (first (type_rules type d)) → datagram_fault d ≡ 0
+well_formed type d e = (datagram_none d (35 when other_type type d ∷ []) (none_first (type_rules type d) tt (none_judged (tt {0}) (first (type_rules type d)) (tt {0}) e))).0
 
 -- data, as the code asks for it: of n bytes, with o bytes of options and x of data
 some_data : (n o x : ℕ) → o + x + 18 ≡ n → eqb n (o + 18) ≡ eqb x 0
@@ -78,3 +82,22 @@ module _ (type : ℕ) (bad : Bool) (d : List ℕ) where
   pub none_file : datagram_fault d ≡ 0 → other_type type d ≡ false → bad ≡ false → first (file_rules type bad d) ≡ 0
   none_file good ours fine =
       first_none (file_rules type bad d) (none_datagram d (35 when other_type type d ∷ 36 when bad ∷ []) good (ours, (fine, tt)))
+
+-- ---- what the writers are told of the length n that is due: a refusal, or that the text is short and there is room
+module _ (text bs out : List ℕ) (n : ℕ) (e : length bs ≡ n) where
+  abbrev asked_for : List Rule
+  asked_for = 36 when long_text text ∷ 16 when ltb (length out) n ∷ []
+
+  same_rules : first asked_for ≡ first (write_rules text bs out)
+  same_rules = ap (λ (k : ℕ). first (36 when long_text text ∷ 16 when ltb (length out) k ∷ [])) (sym e)
+
+  pub writes_handed : (r : Written) (d : Refusal) → IsErr r × IsErrAnd r (λ k. k ≡ d) → Err d ≡ judged n (first asked_for) → Writes (first (write_rules text bs out)) bs out r out
+  writes_handed r d exit j =
+      let p = err_from_is_err_and r exit.1 in
+      rw (p.1, p.2) (writes_judged bs out n (Err d) (first (write_rules text bs out)) d (j ∙ ap (judged n) same_rules) refl)
+
+  pub may_write : (m : ℕ) → Ok m ≡ judged n (first asked_for) → (length text ≤ 65535) × (n ≤ length out) × (0 ≡ first (write_rules text bs out)) × (m ≡ length bs)
+  may_write m j =
+      let ok = accepted_as n (first asked_for) m (sym j) in
+      let h = none_first asked_for tt ok.0 in
+      (ltb-false 65535 (length text) h.0, ltb-false (length out) n h.1.0, sym (sym same_rules ∙ ok.0), sym (e ∙ ok.1))

@@ -1,16 +1,15 @@
 -- What reading a read-file request or reply answers.
 -- Assumes nothing.
-use Rattle.std.specs.Prelude.{ℕ, ◌+◌, ◌-◌, Bool, not, ◌||◌, List, [], ◌∷◌, ◌++◌, eqb, length, get_or}
+use Rattle.std.specs.Prelude.{ℕ, ◌+◌, ◌-◌, Bool, not, ◌||◌, List, [], ◌∷◌, ◌++◌, eqb, length, get_or, Result, Ok, Err}
 use Rattle.wire.specs.Refusal.{Rule, ◌when◌, first}
-use Rattle.wire.specs.Answer.{answered}
+use Rattle.wire.specs.Answer.{judged}
+use Rattle.wire.specs.Numbered.{number_of}
+use Rattle.wire.specs.declared.refusals.Refusal.{Refusal}
 use Rattle.wire.specs.Told.{Told, accepted, refused}
 use Rattle.sm160_datagram.specs.Layout.{type_of, options_of, data_of}
 use Rattle.sm160_datagram.specs.Reading.{datagram_rules}
 use Rattle.sm160_read_file.specs.Layout.{REQUEST, REPLY, name_at, message_at, offset_of, size_of, status_of, text_length_of}
-use Rattle.sm160_read_file.specs.declared.RequestRead.{RequestRead}
-use Rattle.sm160_read_file.specs.declared.RequestRead.TheVariants.{Request, Refused as BadRequest}
-use Rattle.sm160_read_file.specs.declared.ReplyRead.{ReplyRead}
-use Rattle.sm160_read_file.specs.declared.ReplyRead.TheVariants.{Reply, Refused as BadReply}
+use Rattle.sm160_read_file.specs.declared.Request.{Request}
 
 -- 35 another type
 abbrev pub other_type : ℕ → List ℕ → Bool
@@ -42,18 +41,22 @@ request_rules d = file_rules REQUEST (bad_request d) d
 abbrev pub reply_rules : List ℕ → List Rule
 reply_rules d = file_rules REPLY (bad_reply d) d
 
+-- the fields that the bytes of a request hold
+abbrev pub request_of : List ℕ → Request
+request_of d = record { offset = offset_of (options_of d); size = size_of (options_of d) }
+
 -- the answer is the place and the number of bytes; the name is `text_of name_at (options_of d)`
-unfoldable pub read_request : List ℕ → RequestRead
-read_request d = answered BadRequest (Request (offset_of (options_of d)) (size_of (options_of d))) (first (request_rules d))
+unfoldable pub read_request : List ℕ → Result Request Refusal
+read_request d = judged (request_of d) (first (request_rules d))
 
 -- the answer is the status; the message is `text_of message_at (options_of d)`, and what the file holds `data_of d`
-unfoldable pub read_reply : List ℕ → ReplyRead
-read_reply d = answered BadReply (Reply (status_of (options_of d))) (first (reply_rules d))
+unfoldable pub read_reply : List ℕ → Result ℕ Refusal
+read_reply d = judged (status_of (options_of d)) (first (reply_rules d))
 
-abbrev pub told_request_read : RequestRead → Told
-told_request_read (Request offset size) = accepted (offset ∷ size ∷ [])
-told_request_read (BadRequest n) = refused n
+abbrev pub told_request_read : Result Request Refusal → Told
+told_request_read (Ok r) = accepted (r.offset ∷ r.size ∷ [])
+told_request_read (Err e) = refused (number_of e)
 
-abbrev pub told_reply_read : ReplyRead → Told
-told_reply_read (Reply status) = accepted (status ∷ [])
-told_reply_read (BadReply n) = refused n
+abbrev pub told_reply_read : Result ℕ Refusal → Told
+told_reply_read (Ok status) = accepted (status ∷ [])
+told_reply_read (Err e) = refused (number_of e)

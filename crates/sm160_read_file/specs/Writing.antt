@@ -2,8 +2,7 @@
 -- Assumes nothing.
 use Rattle.std.specs.Prelude.{ℕ, Bool, List, [], ◌∷◌, ltb, length}
 use Rattle.wire.specs.Refusal.{Rule, ◌when◌, first}
-use Rattle.wire.specs.Writes.{Writes}
-use Rattle.wire.specs.declared.Written.{Written}
+use Rattle.wire.specs.Writes.{Written, Writes}
 use Rattle.sm160_datagram.specs.Layout.{datagram_bytes}
 use Rattle.sm160_read_file.specs.Layout.{REQUEST, REPLY, request_options, reply_options}
 

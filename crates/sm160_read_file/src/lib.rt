@@ -1,17 +1,18 @@
 // The SM160 datagrams that ask for a file (07) and bring it (87), with their options. What each function answers is in specs/.
 #![tactic(auto)]
 
-ghost use Rattle.std.specs.Prelude.{◌≡◌, ◌+◌, ◌≤◌, length};
+ghost use Rattle.std.specs.Prelude.{◌≡◌, ◌+◌, ◌≤◌, [], ◌∷◌, ltb, length};
 ghost use Rattle.std.proofs.lemmas.List.Edits.{sets};
 ghost use Rattle.wire.specs.Numbers.{over};
-ghost use Rattle.wire.specs.Refusal.{first};
+ghost use Rattle.wire.specs.Refusal.{◌when◌, first};
+ghost use Rattle.wire.specs.Answer.{judged};
 ghost use Rattle.sm160_datagram.specs.Layout.{options_of};
 ghost use Rattle.sm160_datagram.specs.Reading.{datagram_fault};
 ghost use Rattle.sm160_read_file.specs.Layout.{name_at, message_at, text_bytes, text_of};
 ghost use Rattle.sm160_read_file.specs.Reading.{other_type, bad_text, bad_request, type_rules, read_request, read_reply};
-ghost use Rattle.sm160_read_file.specs.Writing.{request_bytes, reply_bytes, WritesRequest, WritesReply};
+ghost use Rattle.sm160_read_file.specs.Writing.{long_text, request_bytes, reply_bytes, WritesRequest, WritesReply};
 
-use wire::Written;
+use wire::{Refusal, Written};
 
 const REQUEST: u8 = 0x07;
 
@@ -22,20 +23,11 @@ const NAME_AT: usize = 16;
 
 const MESSAGE_AT: usize = 4;
 
-#[derive(Clone, Copy)]
-pub enum RequestRead {
-    // From which place of the file on, and how many bytes of it (all ones for all); the name is `name_of`.
-    Request { offset: u64, size: u64 },
-    // The paper's number.
-    Refused(u8),
-}
-
-#[derive(Clone, Copy)]
-pub enum ReplyRead {
-    // The status; the message is `message_of`, and what the file holds `sm160_datagram::data_of`.
-    Reply(u32),
-    // The paper's number.
-    Refused(u8),
+// From which place of the file on, and how many bytes of it (all ones for all); the name is `name_of`.
+#[derive(Clone, Copy, Debug, PartialEq, Eq)]
+pub struct Request {
+    pub offset: u64,
+    pub size: u64,
 }
 
 // ---- read
@@ -74,35 +66,29 @@ fn bad_request(bytes: &[u8], options: &[u8]) -> bool
     bad_text(options, NAME_AT) | (bytes.len() != options.len() + 18)
 }
 
-// The number of the first rule that holds of a datagram by itself and of its type, 0 for none.
-fn type_fault(bytes: &[u8], kind: u8) -> u8
-    ensures { result ≡ first (type_rules kind bytes.now) }
+// The first rule that holds of a datagram by itself and of its type.
+fn type_fault(bytes: &[u8], kind: u8) -> Result<(), Refusal>
+    ensures { result ≡ judged tt (first (type_rules kind bytes.now)) }
 {
-    let by_itself = sm160_datagram::fault_of(bytes);
-    if by_itself != 0 {
-        return by_itself;
-    }
+    sm160_datagram::fault_of(bytes)?;
     if other_type(bytes, kind) {
-        return 35;
+        return Err(Refusal::OtherType);
     }
-    0
+    Ok(())
 }
 
-pub fn read_request(bytes: &[u8]) -> RequestRead
+pub fn read_request(bytes: &[u8]) -> Result<Request, Refusal>
     ensures { result ≡ read_request bytes.now }
 {
-    let fault = type_fault(bytes, REQUEST);
-    if fault != 0 {
-        return RequestRead::Refused(fault);
-    }
+    type_fault(bytes, REQUEST)?;
     let options = sm160_datagram::options_of(bytes);
     if bad_request(bytes, options) {
-        return RequestRead::Refused(36);
+        return Err(Refusal::BadText);
     }
-    RequestRead::Request {
+    Ok(Request {
         offset: wire::le64_at(options, 0),
         size: wire::le64_at(options, 8),
-    }
+    })
 }
 
 // The name that a request asks for, as a part of its bytes.
@@ -112,18 +98,16 @@ pub fn name_of(bytes: &[u8]) -> &[u8]
     text_of(sm160_datagram::options_of(bytes), NAME_AT)
 }
 
-pub fn read_reply(bytes: &[u8]) -> ReplyRead
+// The status; the message is `message_of`, and what the file holds `sm160_datagram::data_of`.
+pub fn read_reply(bytes: &[u8]) -> Result<u32, Refusal>
     ensures { result ≡ read_reply bytes.now }
 {
-    let fault = type_fault(bytes, REPLY);
-    if fault != 0 {
-        return ReplyRead::Refused(fault);
-    }
+    type_fault(bytes, REPLY)?;
     let options = sm160_datagram::options_of(bytes);
     if bad_text(options, MESSAGE_AT) {
-        return ReplyRead::Refused(36);
+        return Err(Refusal::BadText);
     }
-    ReplyRead::Reply(wire::le32_at(options, 0))
+    Ok(wire::le32_at(options, 0))
 }
 
 // The message of a reply, as a part of its bytes.
@@ -171,32 +155,36 @@ fn put_reply(status: u32, message: &[u8], content: &[u8], out: &mut [u8])
     );
 }
 
+// How long a datagram with this text and these data is, `least` where both are empty; or the first rule that refuses writing it over an output of
+// that room.
+fn length_due(text: &[u8], content: &[u8], least: usize, room: usize) -> Result<usize, Refusal>
+    requires { least ≤ 37 }
+    ensures { let n = length text.now + length content.now + least in result ≡ judged n (first (36 when long_text text.now ∷ 16 when ltb room n ∷ [])) }
+{
+    if 65_535 < text.len() {
+        return Err(Refusal::BadText);
+    }
+    let n = text.len() + content.len() + least;
+    if room < n {
+        return Err(Refusal::NoRoom);
+    }
+    Ok(n)
+}
+
 // The request's datagram, over the front of out.
 pub fn write_request(offset: u64, size: u64, name: &[u8], out: &mut [u8]) -> Written
     ensures { WritesRequest offset size name.now out.old result out.new }
 {
-    if 65_535 < name.len() {
-        return Written::Refused(36);
-    }
-    let n = name.len() + 37;
-    if out.len() < n {
-        return Written::Refused(16);
-    }
+    let n = length_due(name, &[], 37, out.len())?;
     put_request(offset, size, name, out);
-    Written::Length(n)
+    Ok(n)
 }
 
 // The reply's datagram, over the front of out.
 pub fn write_reply(status: u32, message: &[u8], content: &[u8], out: &mut [u8]) -> Written
     ensures { WritesReply status message.now content.now out.old result out.new }
 {
-    if 65_535 < message.len() {
-        return Written::Refused(36);
-    }
-    let n = message.len() + content.len() + 25;
-    if out.len() < n {
-        return Written::Refused(16);
-    }
+    let n = length_due(message, content, 25, out.len())?;
     put_reply(status, message, content, out);
-    Written::Length(n)
+    Ok(n)
 }

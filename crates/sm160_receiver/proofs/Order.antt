@@ -5,15 +5,16 @@ use mathlib.Core.Bool.{Bool, true, false}
 use mathlib.Core.List.{List}
 use Prim.Native.Nat.{ℕ}
 use Rattle.wire.specs.Refusal.{FirstInOrder}
+use Rattle.std.specs.Prelude.{Ok}
+use Rattle.wire.specs.Answer.{refuse as refused_by}
 use Rattle.wire.proofs.Answer.{answer_first}
 use Rattle.sm160_frame.specs.Layout.{is_end}
 use Rattle.sm160_receiver.specs.Receiving.{opened, open_rules, opening, told_opening, reached, receive_rules, refusal, refuse, reply, accept, step, told_answer}
 use Rattle.sm160_receiver.specs.declared.Receiver.{Receiver}
-use Rattle.sm160_receiver.specs.declared.Opening.TheVariants.{Ready, Refused as Unopened}
 
 pub open_first : (session largest : ℕ) → FirstInOrder (open_rules largest) (told_opening (opening session largest)).number
 unfolding opening
-open_first session largest = answer_first Unopened (Ready (opened session largest)) (λ o. (told_opening o).number) (λ n. refl) (open_rules largest) tt refl
+open_first session largest = answer_first refused_by (Ok (opened session largest)) (λ o. (told_opening o).number) (λ n. refl) (open_rules largest) tt refl
 
 no_refusal : (ends : Bool) (n : ℕ) → (told_answer (reply ends n)).number ≡ 0
 no_refusal true n = refl

@@ -1,18 +1,18 @@
 -- The receiver of a file: what it answers to a frame, and what its state and the lent buffer are afterwards.
 -- Assumes nothing.
-use Rattle.std.specs.Prelude.{ℕ, ◌+◌, ◌≡◌, Bool, true, false, cond, not, ◌||◌, ◌&&◌, List, [], ◌∷◌, ◌++◌, ltb, eqb, length, take}
+use Rattle.std.specs.Prelude.{ℕ, ◌+◌, ◌≡◌, Bool, true, false, cond, not, ◌||◌, ◌&&◌, List, [], ◌∷◌, ◌++◌, ltb, eqb, length, take, Result, Ok, Err}
 use Rattle.std.proofs.lemmas.List.Edits.{sets}
 use Rattle.wire.specs.Refusal.{Rule, ◌when◌, first, asked_if}
-use Rattle.wire.specs.Answer.{answered}
+use Rattle.wire.specs.Answer.{answered, judged, refuse as refused_by}
+use Rattle.wire.specs.Numbered.{number_of}
+use Rattle.wire.specs.declared.refusals.Refusal.{Refusal}
 use Rattle.wire.specs.Told.{Told, accepted, refused}
 use Rattle.sm160_frame.specs.Layout.{session_of, offset_of, part_of, is_start, is_end}
 use Rattle.sm160_frame.specs.Reading.{bad_largest, frame_rules}
 use Rattle.sm160_datagram.specs.Reading.{datagram_rules}
 use Rattle.sm160_receiver.specs.declared.Receiver.{Receiver}
-use Rattle.sm160_receiver.specs.declared.Opening.{Opening}
-use Rattle.sm160_receiver.specs.declared.Opening.TheVariants.{Ready, Refused as Unopened}
-use Rattle.sm160_receiver.specs.declared.Answer.{Answer}
-use Rattle.sm160_receiver.specs.declared.Answer.TheVariants.{Held, Complete, Refused}
+use Rattle.sm160_receiver.specs.declared.Progress.{Progress}
+use Rattle.sm160_receiver.specs.declared.Progress.TheVariants.{Held, Complete}
 
 -- "Opening sets count 0, nothing under way."
 abbrev pub opened : ℕ → ℕ → Receiver
@@ -23,8 +23,8 @@ abbrev pub open_rules : ℕ → List Rule
 open_rules largest = 33 when bad_largest largest ∷ []
 
 -- "Opening takes the largest part, 1 to 240"
-unfoldable pub opening : ℕ → ℕ → Opening
-opening session largest = answered Unopened (Ready (opened session largest)) (first (open_rules largest))
+unfoldable pub opening : ℕ → ℕ → Result Receiver Refusal
+opening session largest = judged (opened session largest) (first (open_rules largest))
 
 -- "A receiver is a session, whether a file is under way, and the count held": s with these two, and all else of it stays; so "the receiver's
 -- state keeps it through every later call"
@@ -101,19 +101,19 @@ refusal s b f = first (receive_rules s b f)
 
 -- what a frame comes to
 pub record After : Type 0 where
-  pub answer : Answer
+  pub answer : Result Progress Refusal
   pub state : Receiver
   pub buffer : List ℕ
 
 -- "Each returns its number and leaves every buffer and state untouched." So "A refused last frame isn't stored, and a file that was under way
 -- stays so."
 abbrev pub refuse : ℕ → Receiver → List ℕ → After
-refuse n s b = record { answer = Refused n; state = s; buffer = b }
+refuse n s b = record { answer = refused_by n; state = s; buffer = b }
 
 -- "END completes: the answer is the length" and "Any other accepted frame is answered with the new count."
-abbrev pub reply : Bool → ℕ → Answer
-reply true n = Complete n
-reply false n = Held n
+abbrev pub reply : Bool → ℕ → Result Progress Refusal
+reply true n = Ok (Complete n)
+reply false n = Ok (Held n)
 
 -- the state after it, made from the state before it; at END "then nothing is under way and the count is 0"
 abbrev pub state_after : Bool → Receiver → ℕ → Receiver
@@ -130,7 +130,7 @@ accept s f b =
       buffer = sets b (offset_of f) (part_of f);
     }
 
-unfoldable pub Accepts : Receiver → List ℕ → List ℕ → Answer → Receiver → List ℕ → Type 0
+unfoldable pub Accepts : Receiver → List ℕ → List ℕ → Result Progress Refusal → Receiver → List ℕ → Type 0
 Accepts s f b a s' b' = record { answer = a; state = s'; buffer = b' } ≡ accept s f b
 
 -- one frame f, at a receiver s with the buffer b
@@ -139,16 +139,16 @@ step s f b = answered (λ n. refuse n s b) (accept s f b) (refusal s b f)
 
 -- "The receiver's state is lent to each call and updated there, after the core stands by value": what each function that takes a frame
 -- promises of the answer, the state and the buffer
-unfoldable pub Took : Receiver → List ℕ → List ℕ → Answer → Receiver → List ℕ → Type 0
+unfoldable pub Took : Receiver → List ℕ → List ℕ → Result Progress Refusal → Receiver → List ℕ → Type 0
 Took s f b a s' b' = record { answer = a; state = s'; buffer = b' } ≡ step s f b
 
 -- accepted with the four fields of the state
-abbrev pub told_opening : Opening → Told
-told_opening (Ready s) = accepted (s.session ∷ s.limit ∷ cond s.under_way 1 0 ∷ s.count ∷ [])
-told_opening (Unopened n) = refused n
+abbrev pub told_opening : Result Receiver Refusal → Told
+told_opening (Ok s) = accepted (s.session ∷ s.limit ∷ cond s.under_way 1 0 ∷ s.count ∷ [])
+told_opening (Err e) = refused (number_of e)
 
 -- accepted with 0 and the count held, or with 1 and the length of the whole file
-abbrev pub told_answer : Answer → Told
-told_answer (Held n) = accepted (0 ∷ n ∷ [])
-told_answer (Complete n) = accepted (1 ∷ n ∷ [])
-told_answer (Refused n) = refused n
+abbrev pub told_answer : Result Progress Refusal → Told
+told_answer (Ok (Held n)) = accepted (0 ∷ n ∷ [])
+told_answer (Ok (Complete n)) = accepted (1 ∷ n ∷ [])
+told_answer (Err e) = refused (number_of e)

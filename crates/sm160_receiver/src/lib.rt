@@ -15,6 +15,7 @@
 #![tactic(auto)]
 
 ghost use Rattle.std.specs.Prelude.{◌≡◌};
+ghost use Rattle.wire.specs.Answer.{judged};
 ghost use Rattle.wire.specs.Refusal.{first};
 ghost use Rattle.sm160_receiver.specs.Receiving.{
   opened,
@@ -29,17 +30,18 @@ ghost use Rattle.sm160_receiver.specs.Receiving.{
   above_count,
   beyond_buffer,
   place_rules,
+  file_rules,
   up_to31,
   refusal,
-  reply,
-  state_after,
   Accepts,
   Took,
 };
 
+use wire::Refusal;
+
 // A session, the largest part that was agreed on, whether a file is under way, and how many of its bytes are held. The count is as wide as a
-// length, so that no sum wraps.
-#[derive(Clone, Copy)]
+// length, so that no sum wraps. It stands beside the flag, and not in it: `unfit` speaks of states in which the two disagree.
+#[derive(Clone, Copy, Debug, PartialEq, Eq)]
 pub struct Receiver {
     pub session: u16,
     pub limit: usize,
@@ -47,38 +49,29 @@ pub struct Receiver {
     pub count: usize,
 }
 
-#[derive(Clone, Copy)]
-pub enum Opening {
-    // The state for the first call.
-    Ready(Receiver),
-    // The paper's number.
-    Refused(u8),
-}
-
-#[derive(Clone, Copy)]
-pub enum Answer {
+// What an accepted frame is answered with.
+#[derive(Clone, Copy, Debug, PartialEq, Eq)]
+pub enum Progress {
     // The bytes held now.
     Held(usize),
     // The file is whole: its length.
     Complete(usize),
-    // The paper's number.
-    Refused(u8),
 }
 
-#[derive(Clone, Copy)]
+#[derive(Clone, Copy, Debug, PartialEq, Eq)]
 pub struct Received {
-    pub answer: Answer,
+    pub answer: Result<Progress, Refusal>,
     pub state: Receiver,
 }
 
-// A receiver that takes parts of 1 byte up to the largest, from 1 to 240.
-pub fn open(session: u16, largest: usize) -> Opening
+// A receiver that takes parts of 1 byte up to the largest, from 1 to 240: the state for the first call.
+pub fn open(session: u16, largest: usize) -> Result<Receiver, Refusal>
     ensures { result ≡ opening session largest }
 {
     if sm160_frame::bad_largest(largest) {
-        return Opening::Refused(33);
+        return Err(Refusal::BadLargest);
     }
-    Opening::Ready(Receiver {
+    Ok(Receiver {
         session,
         limit: largest,
         under_way: false,
@@ -93,45 +86,10 @@ fn reach(frame: &[u8]) -> usize
     sm160_frame::offset_of(frame) as usize + sm160_frame::part_of(frame).len()
 }
 
-fn is_unfit(state: Receiver, buffer: &[u8]) -> bool
-    ensures { result ≡ unfit state buffer.now }
-{
-    let n = state.count;
-    let going = state.under_way;
-    (buffer.len() < n)
-        | (going & (n == 0))
-        | (!going & (n != 0))
-        | sm160_frame::bad_largest(state.limit)
-}
-
-fn other_session(state: Receiver, frame: &[u8]) -> bool
-    ensures { result ≡ other_session state frame.now }
-{
-    sm160_frame::session_of(frame) != state.session
-}
-
-fn nothing_under_way(state: Receiver, frame: &[u8]) -> bool
-    ensures { result ≡ nothing_under_way state frame.now }
-{
-    !sm160_frame::is_start(frame) & !state.under_way
-}
-
 fn start_elsewhere(frame: &[u8]) -> bool
     ensures { result ≡ start_elsewhere frame.now }
 {
     sm160_frame::is_start(frame) & (sm160_frame::offset_of(frame) != 0)
-}
-
-fn below_count(state: Receiver, frame: &[u8]) -> bool
-    ensures { result ≡ below_count state frame.now }
-{
-    !sm160_frame::is_start(frame) & ((sm160_frame::offset_of(frame) as usize) < state.count)
-}
-
-fn above_count(state: Receiver, frame: &[u8]) -> bool
-    ensures { result ≡ above_count state frame.now }
-{
-    !sm160_frame::is_start(frame) & (state.count < sm160_frame::offset_of(frame) as usize)
 }
 
 fn beyond_buffer(buffer: &[u8], frame: &[u8]) -> bool
@@ -140,138 +98,133 @@ fn beyond_buffer(buffer: &[u8], frame: &[u8]) -> bool
     buffer.len() < reach(frame)
 }
 
-// The first rule of 26 to 31 that the frame breaks where the receiver stands, 0 for none.
-fn place_fault(state: Receiver, buffer: &[u8], frame: &[u8]) -> u8
-    ensures { result ≡ first (place_rules state buffer.now frame.now) }
+// The first rule of 37 to 39 that the file breaks which a last frame would end. The held bytes and the part are judged where they stand.
+fn file_fault(buffer: &[u8], frame: &[u8]) -> Result<(), Refusal>
+    ensures { result ≡ judged tt (first (file_rules buffer.now frame.now)) }
 {
-    if other_session(state, frame) {
-        return 26;
+    if !sm160_frame::is_end(frame) {
+        return Ok(());
     }
-    if nothing_under_way(state, frame) {
-        return 27;
-    }
-    if start_elsewhere(frame) {
-        return 28;
-    }
-    if below_count(state, frame) {
-        return 29;
-    }
-    if above_count(state, frame) {
-        return 30;
-    }
-    if beyond_buffer(buffer, frame) {
-        return 31;
-    }
-    0
+    let held = wire::front(buffer, sm160_frame::offset_of(frame) as usize);
+    sm160_datagram::datagram_fault(held, sm160_frame::part_of(frame))
 }
 
-// The first rule of 20 to 31 that holds, 0 for none.
-fn fault(state: Receiver, buffer: &[u8], frame: &[u8]) -> u8
-    ensures { result ≡ first (up_to31 state buffer.now frame.now) }
-{
-    if is_unfit(state, buffer) {
-        return 20;
+impl Receiver {
+    fn is_unfit(&self, buffer: &[u8]) -> bool
+        ensures { result ≡ unfit self.now buffer.now }
+    {
+        let n = self.count;
+        let going = self.under_way;
+        (buffer.len() < n)
+            | (going & (n == 0))
+            | (!going & (n != 0))
+            | sm160_frame::bad_largest(self.limit)
     }
-    let by_itself = sm160_frame::frame_fault(frame, state.limit);
-    if by_itself != 0 {
-        return by_itself;
-    }
-    place_fault(state, buffer, frame)
-}
 
-// After them the first rule of 37 to 39 that the file breaks which a last frame would end, 0 for none. The held bytes and the part are judged where
-// they stand.
-#[tactic(auto, using(crate::proofs::Steps::file_judged, crate::proofs::Steps::file_unasked))]
-fn file_fault(state: Receiver, buffer: &[u8], frame: &[u8]) -> u8
-    requires { first (up_to31 state buffer.now frame.now) ≡ 0 }
-    ensures { result ≡ refusal state buffer.now frame.now }
-{
-    if sm160_frame::is_end(frame) {
-        let held = wire::front(buffer, sm160_frame::offset_of(frame) as usize);
-        return sm160_datagram::datagram_fault(held, sm160_frame::part_of(frame));
+    fn other_session(&self, frame: &[u8]) -> bool
+        ensures { result ≡ other_session self.now frame.now }
+    {
+        sm160_frame::session_of(frame) != self.session
     }
-    0
-}
 
-fn reply_to(ends: bool, reached: usize) -> Answer
-    ensures { result ≡ reply ends reached }
-{
-    if ends {
-        Answer::Complete(reached)
-    } else {
-        Answer::Held(reached)
+    fn nothing_under_way(&self, frame: &[u8]) -> bool
+        ensures { result ≡ nothing_under_way self.now frame.now }
+    {
+        !sm160_frame::is_start(frame) & !self.under_way
     }
-}
 
-// Nothing is under way after END; all that is not set here stays.
-fn state_after(ends: bool, state: Receiver, reached: usize) -> Receiver
-    ensures { result ≡ state_after ends state reached }
-{
-    if ends {
-        Receiver {
-            under_way: false,
-            count: 0,
-            ..state
+    fn below_count(&self, frame: &[u8]) -> bool
+        ensures { result ≡ below_count self.now frame.now }
+    {
+        !sm160_frame::is_start(frame) & ((sm160_frame::offset_of(frame) as usize) < self.count)
+    }
+
+    fn above_count(&self, frame: &[u8]) -> bool
+        ensures { result ≡ above_count self.now frame.now }
+    {
+        !sm160_frame::is_start(frame) & (self.count < sm160_frame::offset_of(frame) as usize)
+    }
+
+    // The first rule of 26 to 31 that holds.
+    fn place_fault(&self, buffer: &[u8], frame: &[u8]) -> Result<(), Refusal>
+        ensures { result ≡ judged tt (first (place_rules self.now buffer.now frame.now)) }
+    {
+        if self.other_session(frame) {
+            return Err(Refusal::OtherSession);
         }
-    } else {
-        Receiver {
-            under_way: true,
-            count: reached,
-            ..state
+        if self.nothing_under_way(frame) {
+            return Err(Refusal::NothingUnderWay);
+        }
+        if start_elsewhere(frame) {
+            return Err(Refusal::StartElsewhere);
+        }
+        if self.below_count(frame) {
+            return Err(Refusal::BelowCount);
+        }
+        if self.above_count(frame) {
+            return Err(Refusal::AboveCount);
+        }
+        if beyond_buffer(buffer, frame) {
+            return Err(Refusal::BeyondBuffer);
+        }
+        Ok(())
+    }
+
+    // The first rule of 20 to 31 that holds.
+    fn fault(&self, buffer: &[u8], frame: &[u8]) -> Result<(), Refusal>
+        ensures { result ≡ judged tt (first (up_to31 self.now buffer.now frame.now)) }
+    {
+        if self.is_unfit(buffer) {
+            return Err(Refusal::Unfit);
+        }
+        sm160_frame::frame_fault(frame, self.limit)?;
+        self.place_fault(buffer, frame)
+    }
+
+    // A frame that no rule refuses: its part is stored, exactly its bytes. START begins again at 0, any other part goes on at the count. Nothing is
+    // under way after END.
+    fn accept(&mut self, frame: &[u8], buffer: &mut [u8]) -> Progress
+        requires { refusal self.old buffer.old frame.now ≡ 0 }
+        ensures { Accepts self.old frame.now buffer.old (Ok result) self.new buffer.new }
+    {
+        let reached = reach(frame);
+        let start = sm160_frame::is_start(frame);
+        let at = if start { 0 } else { self.count };
+        wire::put_all(buffer, at, sm160_frame::part_of(frame));
+        if sm160_frame::is_end(frame) {
+            self.under_way = false;
+            self.count = 0;
+            Progress::Complete(reached)
+        } else {
+            self.under_way = true;
+            self.count = reached;
+            Progress::Held(reached)
         }
     }
 }
 
-// A frame that no rule refuses: its part is stored, exactly its bytes. START begins again at 0, any other part goes on at the count.
-fn accept_frame(state: Receiver, frame: &[u8], buffer: &mut [u8]) -> Received
-    requires { refusal state buffer.old frame.now ≡ 0 }
-    ensures { Accepts state frame.now buffer.old result.answer result.state buffer.new }
-{
-    let ends = sm160_frame::is_end(frame);
-    let reached = reach(frame);
-    let at = if sm160_frame::is_start(frame) {
-        0
-    } else {
-        state.count
-    };
-    wire::put_all(buffer, at, sm160_frame::part_of(frame));
-    Received {
-        answer: reply_to(ends, reached),
-        state: state_after(ends, state, reached),
-    }
-}
-
-// One frame. A refusal changes neither the state nor the buffer.
-pub fn receive(state: Receiver, frame: &[u8], buffer: &mut [u8]) -> Received
-    ensures { Took state frame.now buffer.old result.answer result.state buffer.new }
-{
-    let number = fault(state, buffer, frame);
-    if number != 0 {
-        return Received {
-            answer: Answer::Refused(number),
-            state,
-        };
-    }
-    let of_file = file_fault(state, buffer, frame);
-    if of_file != 0 {
-        return Received {
-            answer: Answer::Refused(of_file),
-            state,
-        };
-    }
-    accept_frame(state, frame, buffer)
-}
-
-// One frame, at a receiver that is lent to the call and updated there.
-pub fn receive_lent(state: &mut Receiver, frame: &[u8], buffer: &mut [u8]) -> Answer
+// One frame, at a receiver that is lent to the call and updated there. A refusal changes neither the state nor the buffer.
+pub fn receive_lent(
+    state: &mut Receiver,
+    frame: &[u8],
+    buffer: &mut [u8],
+) -> Result<Progress, Refusal>
     ensures { Took state.old frame.now buffer.old result state.new buffer.new }
 {
-    let out = receive(*state, frame, buffer);
-    *state = out.state;
-    out.answer
+    state.fault(buffer, frame)?;
+    file_fault(buffer, frame)?;
+    Ok(state.accept(frame, buffer))
 }
 
-// One frame, at a receiver that is given by its plain fields.
+// One frame.
+pub fn receive(mut state: Receiver, frame: &[u8], buffer: &mut [u8]) -> Received
+    ensures { Took state frame.now buffer.old result.answer result.state buffer.new }
+{
+    let answer = receive_lent(&mut state, frame, buffer);
+    Received { answer, state }
+}
+
+// One frame, at a receiver that is given by its plain fields, as `of_receive_plain` in demand3 names them.
 pub fn receive_plain(
     session: u16,
     limit: usize,
@@ -282,12 +235,11 @@ pub fn receive_plain(
 ) -> Received
     ensures { Took (standing (opened session limit) under_way count) frame.now buffer.old result.answer result.state buffer.new }
 {
-    let mut state = Receiver {
+    let state = Receiver {
         session,
         limit,
         under_way,
         count,
     };
-    let answer = receive_lent(&mut state, frame, buffer);
-    Received { answer, state }
+    receive(state, frame, buffer)
 }

@@ -2,21 +2,21 @@
 -- Assumes nothing.
 use mathlib.Core.Path.{◌≡◌, refl, ap, ◌∙◌}
 use mathlib.Core.Bool.{Bool, true, false}
-use mathlib.Core.List.{List}
+use mathlib.Core.List.{List, [], ◌∷◌}
 use Prim.Native.Nat.{ℕ, ◌-◌, ◌≤◌, ◌<◌, min}
 use native.Mathlib.Nat.{min-le_left, min-le_right, le-min}
 use native.Mathlib.Omega.{arith}
 use lib.Dec.{ltb, eqb}
 use lib.ListN.{length, drop, length-take, length-drop}
 use borrow.Author.Tests.{ltb-false, leb-false, ne_eqb, le-ltb}
-use Rattle.wire.specs.Refusal.{NoneHolds}
+use Rattle.wire.specs.Refusal.{◌when◌, NoneHolds}
 use Rattle.wire.proofs.Bools.{or_neither, neither_or}
 use Rattle.sm160_frame.specs.Layout.{START, END, has}
 use Rattle.sm160_frame.specs.Reading.{LARGEST, bad_largest, bad_part, bad_flags}
 use Rattle.sm160_frame.proofs.Limit.{largest_from}
 use Rattle.sm160_datagram.specs.Reading.{datagram_fault}
 use Rattle.sm160_datagram.proofs.Order.{datagram_none, none_datagram}
-use Rattle.sm160_sender.specs.Sending.{part_at, next_place, flags_for, bad_file, past_end, no_room, place_rules, send_rules}
+use Rattle.sm160_sender.specs.Sending.{part_at, next_place, flags_for, bad_file, past_end, no_room, send_rules}
 
 -- what the sender has found where it does not refuse by 32 to 39
 pub record Sendable (file : List ℕ) (largest place : ℕ) : Type 0 where
@@ -42,12 +42,12 @@ module _ (file : List ℕ) (largest place : ℕ) where
   module _ (room : ℕ) where
     pub may_send : NoneHolds (send_rules file largest place room) → Sendable file largest place × (no_room file largest place room ≡ false)
     may_send h =
-        let d = datagram_none file (place_rules file largest place room) h.1.1 in
+        let d = datagram_none file (34 when past_end file place ∷ 16 when no_room file largest place room ∷ []) h.1.1 in
         (sendable h.0 h.1.0 d.0 d.1.0, d.1.1.0)
 
     pub sends_none : bad_file file ≡ false → bad_largest largest ≡ false → datagram_fault file ≡ 0 → past_end file place ≡ false → no_room file largest place room ≡ false
         → NoneHolds (send_rules file largest place room)
-    sends_none a b d c e = (a, (b, none_datagram file (place_rules file largest place room) d (c, (e, tt))))
+    sends_none a b d c e = (a, (b, none_datagram file (34 when past_end file place ∷ 16 when no_room file largest place room ∷ []) d (c, (e, tt))))
 
   pub length_part : Sendable file largest place
       → (1 ≤ length (part_at file largest place)) × (length (part_at file largest place) ≤ largest) × (next_place file largest place ≤ length file)

@@ -12,19 +12,21 @@ use lib.Seq.{drop-drop, drop-length, take-append_seam}
 use borrow.Author.Tests.{eq-eqb, ne_eqb, eqb-true, eqb-false, le-ltb, lt-leb}
 use Rattle.wire.specs.Each.{Bytes}
 use Rattle.wire.specs.Numbers.{over}
-use Rattle.wire.specs.Answer.{answered}
+use Rattle.std.specs.Prelude.{Ok}
+use Rattle.wire.specs.Answer.{judged}
+use Rattle.wire.specs.Writes.{write_output}
 use Rattle.wire.specs.Refusal.{first}
-use Rattle.wire.proofs.Answer.{answered_none, accepted_as}
+use Rattle.wire.proofs.Answer.{judged_none, accepted_as}
 use Rattle.wire.proofs.Each.{each_drop, each_take}
-use Rattle.wire.proofs.Refusal.{first_none, none_first}
+use Rattle.wire.proofs.Rules.{first_none, none_first}
 use Rattle.sm160_frame.specs.Layout.{START, END, has, part_of, is_start, is_end}
 use Rattle.sm160_frame.specs.Reading.{bad_largest}
 use Rattle.sm160_datagram.specs.Reading.{datagram_fault}
 use Rattle.sm160_frame.specs.Carried.{Carries, none, InTurn, joined, Carried}
 use Rattle.sm160_frame.proofs.Bytes.{made_session, made_offset, made_flags, made_part, made_good}
-use Rattle.sm160_sender.specs.Sending.{part_at, next_place, remains_at, flags_at, sent_bytes, bad_file, past_end, no_room, send_rules, Sends, told_sent}
+use Rattle.sm160_sender.specs.Sending.{part_at, next_place, remains_at, flags_at, sent_bytes, bad_file, past_end, no_room, send_rules, Sends}
 use Rattle.sm160_sender.specs.Whole.{Call, SentInTurn, sent_frames}
-use Rattle.sm160_sender.specs.declared.Sent.TheVariants.{Frame, Refused}
+use Rattle.sm160_sender.specs.declared.Sent.{Sent}
 use Rattle.sm160_sender.proofs.Parts.{Sendable, sendable, may_send, sends_none, length_part, good_part, flagged}
 
 take_then_drop : (n : ℕ) (xs : List ℕ) → take n xs ++ drop (length (take n xs)) xs ≡ xs
@@ -33,11 +35,13 @@ take_then_drop (suc n) [] = refl
 take_then_drop (suc n) (x ∷ xs) = ap (λ (l : List ℕ). x ∷ l) (take_then_drop n xs)
 
 -- ---- one call
-accepted : (n : ℕ) (bs : List ℕ) (m l next : ℕ) → Frame l next ≡ answered Refused (Frame (length bs) m) n → (n ≡ 0) × (l ≡ length bs) × (next ≡ m)
+abbrev sent_as : ℕ → ℕ → Sent
+sent_as l next = record { length = l; next = next }
+
+accepted : (n : ℕ) (bs : List ℕ) (m l next : ℕ) → Ok (sent_as l next) ≡ judged (sent_as (length bs) m) n → (n ≡ 0) × (l ≡ length bs) × (next ≡ m)
 accepted n bs m l next e =
-    let ok = accepted_as Refused (Frame (length bs) m) (λ r. (told_sent r).number) (λ k. refl) n (Frame l next) (sym e) refl in
-    let same : Frame (length bs) m ≡ Frame l next = ok.1 in
-    (ok.0, (cc), (cc))
+    let ok = accepted_as (sent_as (length bs) m) n (sent_as l next) (sym e) in
+    (ok.0, ap (λ (s : Sent). s.length) (sym ok.1), ap (λ (s : Sent). s.next) (sym ok.1))
 
 module _ (file : List ℕ) (session largest : ℕ) where
   -- what a call that wrote a frame has done
@@ -46,7 +50,7 @@ module _ (file : List ℕ) (session largest : ℕ) where
     frame : take l out' ≡ sent_bytes file session largest place
     goes : next ≡ next_place file largest place
 
-  wrote : (place : ℕ) (out : List ℕ) (l next : ℕ) (out' : List ℕ) → Sends file session largest place out (Frame l next) out' → Wrote place l next out'
+  wrote : (place : ℕ) (out : List ℕ) (l next : ℕ) (out' : List ℕ) → Sends file session largest place out (Ok (sent_as l next)) out' → Wrote place l next out'
   unfolding over
   wrote place out l next out' w =
       let rules = send_rules file largest place (length out) in
@@ -55,7 +59,7 @@ module _ (file : List ℕ) (session largest : ℕ) where
       record {
         able = (may_send file largest place (length out) (none_first rules tt ok.0)).0;
         frame =
-            ap₂ (λ (n : ℕ) (o : List ℕ). take n o) ok.1 (w.output ∙ answered_none (λ _. out) (over out bs) _ ok.0)
+            ap₂ (λ (n : ℕ) (o : List ℕ). take n o) ok.1 (w.output ∙ ap (λ (k : ℕ). write_output k bs out) ok.0)
             ∙ take-append_seam bs (drop (length bs) out);
         goes = ok.2;
       }
@@ -136,7 +140,7 @@ module _ (file : List ℕ) (session largest : ℕ) where
   -- ---- every datagram can be sent so, with one output of 252 bytes or more lent to every call
   module _ (out : List ℕ) (good-file : bad_file file ≡ false) (good-largest : bad_largest largest ≡ false) (datagram : datagram_fault file ≡ 0) (room : 252 ≤ length out) where
     call : (place : ℕ) → place < length file
-        → Sends file session largest place out (Frame (length (sent_bytes file session largest place)) (next_place file largest place)) (over out (sent_bytes file session largest place))
+        → Sends file session largest place out (Ok (sent_as (length (sent_bytes file session largest place)) (next_place file largest place))) (over out (sent_bytes file session largest place))
     call place inside =
         let bs = sent_bytes file session largest place in
         let within : past_end file place ≡ false = lt-leb (length file) place inside in
@@ -146,8 +150,8 @@ module _ (file : List ℕ) (session largest : ℕ) where
         le-ltb (length out) (length (part_at file largest place) + 12) (omega (arith, n.1, g.most)) in
         let z = first_none (send_rules file largest place (length out)) (sends_none file largest place (length out) good-file good-largest datagram within enough) in
         record {
-          answer = sym (answered_none Refused (Frame (length bs) (next_place file largest place)) _ z);
-          output = sym (answered_none (λ _. out) (over out bs) _ z);
+          answer = sym (judged_none (sent_as (length bs) (next_place file largest place)) _ z);
+          output = ap (λ (k : ℕ). write_output k bs out) (sym z);
         }
 
     -- at the end no call, before it one and those that go on from its answer

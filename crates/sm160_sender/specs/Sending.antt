@@ -1,15 +1,16 @@
 -- The sender of a file: one frame of it, from a place on.
 -- Assumes nothing.
-use Rattle.std.specs.Prelude.{ℕ, ◌+◌, ◌-◌, ◌≡◌, Bool, cond, ◌||◌, List, [], ◌∷◌, ◌++◌, ltb, leb, eqb, length, take, drop}
+use Rattle.std.specs.Prelude.{ℕ, ◌+◌, ◌-◌, ◌≡◌, Bool, cond, ◌||◌, List, [], ◌∷◌, ◌++◌, ltb, leb, eqb, length, take, drop, Result, Ok, Err}
 use Rattle.wire.specs.Refusal.{Rule, ◌when◌, first}
-use Rattle.wire.specs.Answer.{answered}
+use Rattle.wire.specs.Answer.{judged}
+use Rattle.wire.specs.Numbered.{number_of}
+use Rattle.wire.specs.declared.refusals.Refusal.{Refusal}
 use Rattle.wire.specs.Told.{Told, accepted, refused}
 use Rattle.wire.specs.Writes.{write_output}
 use Rattle.sm160_frame.specs.Layout.{START, END, frame_bytes}
 use Rattle.sm160_frame.specs.Reading.{bad_largest}
 use Rattle.sm160_datagram.specs.Reading.{datagram_rules}
 use Rattle.sm160_sender.specs.declared.Sent.{Sent}
-use Rattle.sm160_sender.specs.declared.Sent.TheVariants.{Frame, Refused}
 
 -- "the part is the lesser of the largest part and what remains"
 abbrev pub part_at : List ℕ → ℕ → ℕ → List ℕ
@@ -58,13 +59,20 @@ send_rules file largest place room =
     ∷ 33 when bad_largest largest
     ∷ (datagram_rules file ++ place_rules file largest place room)
 
+-- the same but for 16, the last
+abbrev pub up_to34 : List ℕ → ℕ → ℕ → List Rule
+up_to34 file largest place =
+    32 when bad_file file
+    ∷ 33 when bad_largest largest
+    ∷ (datagram_rules file ++ (34 when past_end file place ∷ []))
+
 -- "The sender gets file, session, largest part, place and a buffer. .. It answers the frame's length and the next place. Bytes after the
 -- frame stay": the answer r, and what the output holds afterwards
-pub record Sends (file : List ℕ) (session largest place : ℕ) (out : List ℕ) (r : Sent) (out' : List ℕ) : Type 0 where
-  pub answer : r ≡ answered Refused (Frame (length (sent_bytes file session largest place)) (next_place file largest place)) (first (send_rules file largest place (length out)))
+pub record Sends (file : List ℕ) (session largest place : ℕ) (out : List ℕ) (r : Result Sent Refusal) (out' : List ℕ) : Type 0 where
+  pub answer : r ≡ judged (record { length = length (sent_bytes file session largest place); next = next_place file largest place }) (first (send_rules file largest place (length out)))
   pub output : out' ≡ write_output (first (send_rules file largest place (length out))) (sent_bytes file session largest place) out
 
 -- the length and the next place
-abbrev pub told_sent : Sent → Told
-told_sent (Frame n next) = accepted (n ∷ next ∷ [])
-told_sent (Refused n) = refused n
+abbrev pub told_sent : Result Sent Refusal → Told
+told_sent (Ok s) = accepted (s.length ∷ s.next ∷ [])
+told_sent (Err e) = refused (number_of e)

@@ -1,4 +1,4 @@
 pub mod Places
-pub mod Walking
 pub mod Positions
+pub mod Walking
 pub mod Reading

@@ -1,17 +1,21 @@
 -- What the loops over characters owe: one character more, or one that is not expected.
 -- Assumes nothing.
 use mathlib.Core.Path.{◌≡◌, refl, sym, ap, ap₂, ◌∙◌}
-use mathlib.Core.Bool.{Bool, true, false, cond}
+use mathlib.Core.Bool.{Bool, true, false, not, cond}
 use mathlib.Core.List.{List, ◌∷◌}
-use Prim.Native.Nat.{ℕ, suc, ◌+◌, ◌-◌, ◌≤◌, ◌<◌}
-use native.Mathlib.Nat.{add-zero}
+use Prim.Native.Nat.{ℕ, ◌+◌, ◌-◌, ◌≤◌, ◌<◌}
 use native.Mathlib.Numerals.{add-one}
 use native.Mathlib.Omega.{arith}
 use lib.Dec.{eqb, ltb}
 use lib.ListN.{length, take, drop, get_or, drop_of_length-le}
 use lib.Seq.{drop-cons}
 use borrow.Author.Tests.{ltb-true, ltb-false}
-use Rattle.sm160_text.specs.declared.Seen.{Seen}
+use Rattle.std.proofs.Common.{one-add}
+use Rattle.std.specs.Prelude.{Option, Some, None, unwrap_or}
+use Rattle.std.specs.List.{position, position_or_len}
+use Rattle.std.proofs.lemmas.List.Recursion.{is_position_or_len}
+use Rattle.std.proofs.lemmas.List.Sums.{prefix_len-le-length}
+use Rattle.sm160_text.specs.Line.{Seen}
 use Rattle.sm160_text.specs.declared.Span.{Span}
 use Rattle.sm160_text.specs.Text.{begins, is_at, ends_text, run, text_end, text_of}
 use Rattle.sm160_text.specs.Walk.{good, characters}
@@ -59,18 +63,23 @@ module _ (s cs : List ℕ) (n p i : ℕ) where
   characters_all h = rw (drop_of_length-le cs h)
 
 -- ---- the end of a text
-module _ (s : List ℕ) (e : ℕ) where
-  pub text_end_here : (r : Bool) → e < length s → r ≡ ends_text (get_or s e 0) → r ≡ true → e ≡ text_end s e
-  unfolding text_end run
-  text_end_here r h q t = rw (drop_next s e h, cond_true (ends_text (get_or s e 0)) 0 (suc (run (drop (e + 1) s))) (sym q ∙ t)) (sym (add-zero e))
+runs : (l : List ℕ) → run l ≡ position_or_len ends_text l
+unfolding run
+runs l = is_position_or_len run ends_text refl (λ b bs. ap (cond (ends_text b) 0) (sym (one-add (run bs)))) l
 
-  pub text_end_more : (r : Bool) → e < length s → r ≡ ends_text (get_or s e 0) → r ≡ false → text_end s (e + 1) ≡ text_end s e
-  unfolding text_end run
-  text_end_more r h q t = rw (drop_next s e h, cond_false (ends_text (get_or s e 0)) 0 (suc (run (drop (e + 1) s))) (sym q ∙ t)) (omega arith)
-
-  pub text_end_past : length s ≤ e → e ≡ text_end s e
-  unfolding text_end run
-  text_end_past h = rw (drop_of_length-le s h) (sym (add-zero e))
+pub text_end_is : (s rest : List ℕ) (p k : ℕ) (o : Option ℕ) → o ≡ position ends_text rest → rest ≡ drop p s → k ≡ unwrap_or o (length rest) → p + k ≡ text_end s p
+unfolding text_end
+text_end_is s rest p k o eo er ek =
+    ap (λ (n : ℕ). p + n)
+    (ek ∙ ap (λ (x : Option ℕ). unwrap_or x (length rest)) eo ∙ found (ltb (position_or_len ends_text rest) (length rest)) refl ∙ sym (runs rest) ∙ ap run er)
+  where
+    found : (b : Bool) → ltb (position_or_len ends_text rest) (length rest) ≡ b
+        → unwrap_or (cond (ltb (position_or_len ends_text rest) (length rest)) (Some (position_or_len ends_text rest)) None) (length rest) ≡ position_or_len ends_text rest
+    found true e = ap (λ (b : Bool). unwrap_or (cond b (Some (position_or_len ends_text rest)) None) (length rest)) e
+    found false e =
+        let most : length rest ≤ position_or_len ends_text rest = ltb-false _ _ e in
+        let least : position_or_len ends_text rest ≤ length rest = prefix_len-le-length (λ b. not (ends_text b)) rest in
+        ap (λ (b : Bool). unwrap_or (cond b (Some (position_or_len ends_text rest)) None) (length rest)) e ∙ omega arith
 
 -- ---- a part of the file
 pub text_as : (s : List ℕ) (span : Span) (rest part : List ℕ) (n : ℕ) → part ≡ take n rest → n ≡ span.end - span.start → rest ≡ drop span.start s → part ≡ text_of s span

@@ -1,56 +1,56 @@
 -- What a line is answered with, as the code judges it: the end, a refusal, a record.
 -- Assumes nothing.
-use mathlib.Core.Path.{◌≡◌, refl, sym, ap, ◌∙◌}
+use mathlib.Core.Path.{◌≡◌, sym, ap, ap₂, ◌∙◌}
 use mathlib.Core.List.{List}
-use Prim.Native.Nat.{ℕ, ◌≤◌, ◌<◌}
+use Prim.Native.Nat.{ℕ, zero, suc, ◌≤◌, ◌<◌}
 use lib.Dec.{leb}
 use lib.ListN.{length}
 use borrow.Author.Tests.{le-leb, lt-leb}
-use Rattle.wire.specs.Answer.{answered}
-use Rattle.wire.proofs.Answer.{answers_refused, answers_accepted}
-use Rattle.sm160_text.specs.declared.Seen.{Seen}
+use Rattle.std.specs.Prelude.{Result, Ok, Err, Some, None}
+use Rattle.wire.specs.Answer.{answered, refuse}
+use Rattle.wire.specs.Numbered.{refusal}
+use Rattle.wire.specs.declared.refusals.Refusal.{Refusal}
+use Rattle.sm160_text.specs.declared.LineRead.{LineRead}
+use Rattle.sm160_text.specs.declared.LineReader.{LineReader}
 use Rattle.sm160_text.specs.declared.Position.{Position}
-use Rattle.sm160_text.specs.declared.Optional.{Optional}
 use Rattle.sm160_text.specs.Position.{position}
-use Rattle.sm160_text.specs.Grammar.{Attribute, line_at, texts_in}
-use Rattle.sm160_text.specs.Line.{Record, End, Refused, Read, judged, read_line}
-use Rattle.sm160_text.specs.Walk.{ReadsLine}
+use Rattle.sm160_text.specs.Grammar.{Optional, Attribute, line_at}
+use Rattle.sm160_text.specs.Line.{Seen, Record, End, Refused, judged, read_line, in_file}
+use Rattle.sm160_text.specs.Walk.{Walks, line}
 use Rattle.sm160_text.proofs.Places.{cond_true, cond_false}
+use Rattle.sm160_text.proofs.Walking.{none_refused, is_given}
 
-module _ (form : List Attribute) (s : List ℕ) (p : ℕ) where
-  abbrev at_end : Read
-  at_end = record { answer = End; next = p }
-
-  pub line_ended : length s ≤ p → read_line form s p ≡ at_end
+module _ {A : Type 0} (made : List Optional → A) (form : List Attribute) where
+  pub reads_end : (s : List ℕ) (p : ℕ) → length s ≤ p → ◌≡◌ {A = LineRead A} (record { answer = Ok None; next = p }) (in_file made (read_line form s p))
   unfolding read_line
-  line_ended h = cond_true (leb (length s) p) at_end (judged s p (line_at form s p)) (le-leb (length s) p h)
+  reads_end s p h = sym (ap (in_file made) (cond_true (leb (length s) p) (record { answer = End; next = p }) (judged s p (line_at form s p)) (le-leb (length s) p h)))
 
-  pub line_judged : p < length s → read_line form s p ≡ judged s p (line_at form s p)
-  unfolding read_line
-  line_judged h = cond_false (leb (length s) p) at_end (judged s p (line_at form s p)) (lt-leb (length s) p h)
+  module _ (was now : LineReader) (h : was.place < length was.bytes.now) where
+    abbrev is : Seen
+    is = (line was form).seen
 
-  -- `to` puts what is read into the file's own struct
-  module _ {A B : Type 0} (to : Read → B) (made : List Optional → A) where
-    pub reads_end : length s ≤ p → to at_end ≡ to (read_line form s p)
-    reads_end h = ap to (sym (line_ended h))
+    abbrev found : ℕ → LineRead A
+    found n = in_file made (answered (λ m. record { answer = Refused m (position was.bytes.now is.place); next = was.place }) (record { answer = Record (line was form).texts; next = is.place }) n)
 
-    module _ (h : p < length s) (last : Seen) (got : A) (line : ReadsLine form made s p last got) where
-      abbrev refusing : ℕ → Read
-      refusing n = record { answer = Refused n (position s last.place); next = p }
+    as_judged : found is.number ≡ in_file made (read_line form was.bytes.now was.place)
+    unfolding read_line
+    as_judged =
+        sym (ap (in_file made) (cond_false (leb (length was.bytes.now) was.place) (record { answer = End; next = was.place }) (judged was.bytes.now was.place (line_at form was.bytes.now was.place)) (lt-leb (length was.bytes.now) was.place h)))
 
-      abbrev accepting : Read
-      accepting = record { answer = Record (texts_in s p (line_at form s p)); next = last.place }
+    pub reads_record : (x : A) → Walks was (made (line was form).texts) is (Ok x) now
+        → ◌≡◌ {A = LineRead A} (record { answer = Ok (Some x); next = now.place }) (in_file made (read_line form was.bytes.now was.place))
+    reads_record x w =
+        ap₂ (λ (y : A) (m : LineReader). record { answer = Ok (Some y); next = m.place }) (sym (is_given _ was is x now w)) w.moves
+        ∙ ap found (sym (none_refused _ was is x now w))
+        ∙ as_judged
 
-      as_seen : answered refusing accepting last.number ≡ read_line form s p
-      as_seen =
-          ap (λ (x : Seen). answered (λ n. record { answer = Refused n (position s x.place); next = p }) (record { answer = Record (texts_in s p (line_at form s p)); next = x.place }) x.number) line.came
-          ∙ sym (line_judged h)
+    pub reads_refused : (e : Refusal) (at : Position) → Walks was (made (line was form).texts) is (Err e) now → at ≡ position was.bytes.now now.place
+        → ◌≡◌ {A = LineRead A} (record { answer = Err (record { refusal = e; at = at }); next = was.place }) (in_file made (read_line form was.bytes.now was.place))
+    reads_refused e at w ea = go is.number w.answers ∙ as_judged
+      where
+        there : at ≡ position was.bytes.now is.place
+        there = ea ∙ ap (λ (m : LineReader). position was.bytes.now m.place) w.moves
 
-      pub reads_refused : (last.number ≡ 0 → ⊥) → (at : Position) → at ≡ position s last.place → to (record { answer = Refused last.number at; next = p }) ≡ to (read_line form s p)
-      reads_refused some at e =
-          ap to (ap (λ (x : Position). record { answer = Refused last.number x; next = p }) e ∙ answers_refused refusing accepting last.number last.number refl some ∙ as_seen)
-
-      -- of a record, by what is made of its texts
-      pub reads_record : last.number ≡ 0 → (b : A → B) → ((texts : List Optional) → b (made texts) ≡ to (record { answer = Record texts; next = last.place })) → b got ≡ to (read_line form s p)
-      reads_record z b same =
-          ap b (line.found z) ∙ same (texts_in s p (line_at form s p)) ∙ ap to (answers_accepted refusing accepting last.number last.number accepting refl z refl ∙ as_seen)
+        go : (n : ℕ) → ◌≡◌ {A = Result A Refusal} (Err e) (answered refuse (Ok (made (line was form).texts)) n) → ◌≡◌ {A = LineRead A} (record { answer = Err (record { refusal = e; at = at }); next = was.place }) (found n)
+        go zero q = absurd (cc)
+        go (suc n) q = let same : e ≡ refusal (suc n) = cc in ap₂ (λ (f : Refusal) (a : Position). record { answer = Err (record { refusal = f; at = a }); next = was.place }) same there

@@ -1,12 +1,11 @@
 -- A line of both files, <r A="text" B="text" /> and a line feed, as a list of what comes next.
 -- Assumes nothing.
-use Rattle.std.specs.Prelude.{ℕ, ◌+◌, Bool, true, not, ◌&&◌, ◌||◌, cond, List, [], ◌∷◌, ◌++◌, map, ltb, get_or}
+use Rattle.std.specs.Prelude.{ℕ, ◌+◌, Bool, true, not, ◌&&◌, ◌||◌, cond, List, [], ◌∷◌, ◌++◌, map, ltb, get_or, Option, Some, None}
 use Prim.Native.String as S
 use Rattle.wire.specs.Digits.{ascii}
 use Rattle.wire.specs.Refusal.{Rule, ◌when◌}
 use Rattle.sm160_text.specs.Text.{blank, quote, is_at, text_end, text_at}
-use Rattle.sm160_text.specs.declared.Optional.{Optional}
-use Rattle.sm160_text.specs.declared.Optional.TheVariants.{Absent, Text}
+use Rattle.sm160_text.specs.declared.Span.{Span}
 
 -- ---- the attributes of a line, in their order, each by its letter
 pub data Attribute : Type 0 where
@@ -130,10 +129,13 @@ placed s p (x ∷ xs) = record { place = p; what = x } ∷ placed s (past s p x)
 abbrev pub place_rules : List ℕ → Placed → List Rule
 place_rules s x = rules_at s x.place x.what
 
--- ---- the texts: one for each attribute of the form
+-- ---- the texts: one for each attribute of the form, none where it is absent
+abbrev pub Optional : Type 0
+Optional = Option Span
+
 unfoldable pub texts_in : List ℕ → ℕ → List Next → List Optional
 texts_in s p [] = []
-texts_in s p (text ∷ xs) = Text (text_at s p) ∷ texts_in s (text_end s p) xs
-texts_in s p (absent ∷ xs) = Absent ∷ texts_in s p xs
+texts_in s p (text ∷ xs) = Some (text_at s p) ∷ texts_in s (text_end s p) xs
+texts_in s p (absent ∷ xs) = None ∷ texts_in s p xs
 texts_in s p (sign part c ∷ xs) = texts_in s (p + 1) xs
 texts_in s p (slash ∷ xs) = texts_in s (p + 1) xs

@@ -1,25 +1,19 @@
 -- What is read at a place of a file: a record, the end, or a refusal with line and column.
 -- Assumes nothing.
-use Rattle.std.specs.Prelude.{ℕ, Bool, cond, List, [], ◌∷◌, leb, length, get_or}
+use Rattle.std.specs.Prelude.{ℕ, Bool, cond, List, [], ◌∷◌, leb, length, get_or, Option, Some, None, Result, Ok, Err}
 use Rattle.wire.specs.Answer.{answered}
+use Rattle.wire.specs.Numbered.{refusal}
 use Rattle.wire.specs.Refusal.{Rule, first}
 use Rattle.wire.specs.InTurn.{in_turn, first_faulty}
 use Rattle.wire.specs.Told.{Told, accepted, refused_with}
 use Rattle.sm160_text.specs.Position.{position}
-use Rattle.sm160_text.specs.Grammar.{Attribute, archive, device_list, Next, absent, line_at, past_all, placed, place_rules, texts_in}
+use Rattle.sm160_text.specs.Grammar.{Optional, Attribute, archive, device_list, Next, absent, line_at, past_all, placed, place_rules, texts_in}
 use Rattle.sm160_text.specs.declared.Span.{Span}
-use Rattle.sm160_text.specs.declared.Seen.{Seen}
 use Rattle.sm160_text.specs.declared.Position.{Position}
-use Rattle.sm160_text.specs.declared.Optional.{Optional}
-use Rattle.sm160_text.specs.declared.Optional.TheVariants.{Absent, Text}
 use Rattle.sm160_text.specs.declared.ArchiveRecord.{ArchiveRecord}
-use Rattle.sm160_text.specs.declared.ArchiveAnswer.{ArchiveAnswer}
-use Rattle.sm160_text.specs.declared.ArchiveAnswer.TheVariants as A
-use Rattle.sm160_text.specs.declared.ArchiveRead.{ArchiveRead}
 use Rattle.sm160_text.specs.declared.DeviceRecord.{DeviceRecord}
-use Rattle.sm160_text.specs.declared.DeviceAnswer.{DeviceAnswer}
-use Rattle.sm160_text.specs.declared.DeviceAnswer.TheVariants as D
-use Rattle.sm160_text.specs.declared.DeviceRead.{DeviceRead}
+use Rattle.sm160_text.specs.declared.Fault.{Fault}
+use Rattle.sm160_text.specs.declared.LineRead.{LineRead}
 
 -- ---- "the first place in the line decides"
 
@@ -31,6 +25,10 @@ abbrev pub fault_place : List ℕ → ℕ → List Next → ℕ
 fault_place s p xs = (first_faulty (place_rules s) (record { place = past_all s p xs; what = absent }) (placed s p xs)).place
 
 -- how far a line is read: no refusal (0) and the place after it, or the refusal and its place
+pub record Seen : Type 0 where
+  pub number : ℕ
+  pub place : ℕ
+
 abbrev pub seen : List ℕ → ℕ → List Next → Seen
 seen s p xs = record { number = first (rules_of s p xs); place = fault_place s p xs }
 
@@ -71,12 +69,12 @@ told_read r = told_as r.answer r.next
 -- ---- in the structs of the two files
 
 abbrev pub text_no : List Optional → ℕ → Optional
-text_no texts i = get_or texts i Absent
+text_no texts i = get_or texts i None
 
 -- a needed attribute is never absent where a line is read
 abbrev pub span_of : Optional → Span
-span_of (Text span) = span
-span_of Absent = record { start = 0; end = 0 }
+span_of (Some span) = span
+span_of None = record { start = 0; end = 0 }
 
 abbrev pub archive_record : List Optional → ArchiveRecord
 archive_record texts =
@@ -93,25 +91,23 @@ archive_record texts =
 abbrev pub device_record : List Optional → DeviceRecord
 device_record texts = record { d = span_of (text_no texts 0); k = span_of (text_no texts 1); s = span_of (text_no texts 2) }
 
-abbrev pub archive_answer : Answer → ArchiveAnswer
-archive_answer (Record texts) = A.Record (archive_record texts)
-archive_answer End = A.End
-archive_answer (Refused n at) = A.Refused n at
+abbrev pub answer_of : {A : Type 0} → (List Optional → A) → Answer → Result (Option A) Fault
+answer_of made (Record texts) = Ok (Some (made texts))
+answer_of made End = Ok None
+answer_of made (Refused n at) = Err (record { refusal = refusal n; at = at })
 
-abbrev pub device_answer : Answer → DeviceAnswer
-device_answer (Record texts) = D.Record (device_record texts)
-device_answer End = D.End
-device_answer (Refused n at) = D.Refused n at
+abbrev pub in_file : {A : Type 0} → (List Optional → A) → Read → LineRead A
+in_file made r = record { answer = answer_of made r.answer; next = r.next }
 
-abbrev pub in_archive : Read → ArchiveRead
-in_archive r = record { answer = archive_answer r.answer; next = r.next }
+abbrev pub in_archive : Read → LineRead ArchiveRecord
+in_archive r = in_file archive_record r
 
-abbrev pub in_devices : Read → DeviceRead
-in_devices r = record { answer = device_answer r.answer; next = r.next }
+abbrev pub in_devices : Read → LineRead DeviceRecord
+in_devices r = in_file device_record r
 
 -- "An SM160 archive file has one record a line"
-unfoldable pub read_record : List ℕ → ℕ → ArchiveRead
+unfoldable pub read_record : List ℕ → ℕ → LineRead ArchiveRecord
 read_record s p = in_archive (read_line archive s p)
 
-unfoldable pub read_device : List ℕ → ℕ → DeviceRead
+unfoldable pub read_device : List ℕ → ℕ → LineRead DeviceRecord
 read_device s p = in_devices (read_line device_list s p)

@@ -8,7 +8,7 @@ use lib.Dec.{ltb, eqb}
 use borrow.Author.Tests.{ltb-false, eqb-true, eqb-false}
 use Rattle.wire.specs.Refusal.{first}
 use Rattle.wire.proofs.Bools.{or_neither}
-use Rattle.wire.proofs.Refusal.{none_first}
+use Rattle.wire.proofs.Rules.{none_first}
 use Rattle.turns.specs.Table.{IsSlot, address_of, is_due, due_in, holds, some, next_after, next_due, lowest_with, lowest_empty, no_slot}
 use Rattle.turns.specs.Calls.{is_empty, add_rules, slot_rules, turn_rules}
 use Rattle.turns.specs.declared.Table.{Table}

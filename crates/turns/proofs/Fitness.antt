@@ -63,6 +63,27 @@ module _ (addresses : List ℕ) (due : List Bool) (k : ℕ) where
   alone_slot o h =
       sym h ∙ ap (λ (c : Bool). not c && not (eqb (lowest_with addresses (address_in addresses k)) k)) (not_zero_lem (address_in addresses k) o) ∙ address_slot o
 
+-- ---- the slot at a place, by what the code asks of its address
+module _ (addresses : List ℕ) (due : List Bool) (at : ℕ) (r : Bool) (asked : r ≡ no_address (get_or addresses at 0)) where
+  back : at + 1 - 1 ≡ at
+  back = omega arith
+
+  here : {b : Bool} → r ≡ b → no_address (address_in addresses (at + 1)) ≡ b
+  here e = ap (λ (i : ℕ). no_address (get_or addresses i 0)) back ∙ sym asked ∙ e
+
+  pub no_address_there : r ≡ true → (not (eqb (get_or addresses at 0) 0) || get_or due at false) ≡ unfit_slot addresses due (at + 1)
+  no_address_there e =
+      subst (λ (i : ℕ). (not (eqb (get_or addresses i 0) 0) || get_or due i false) ≡ unfit_slot addresses due (at + 1)) back
+      (no_address_slot addresses due (at + 1) (here e))
+
+  pub address_there : r ≡ false → not (eqb (lowest_with addresses (get_or addresses at 0)) (at + 1)) ≡ unfit_slot addresses due (at + 1)
+  address_there e =
+      subst (λ (i : ℕ). not (eqb (lowest_with addresses (get_or addresses i 0)) (at + 1)) ≡ unfit_slot addresses due (at + 1)) back
+      (address_slot addresses due (at + 1) (here e))
+
+  pub alone_there : r ≡ false → held_twice addresses (at + 1) ≡ false → false ≡ unfit_slot addresses due (at + 1)
+  alone_there e = alone_slot addresses due (at + 1) (here e)
+
 -- ---- `seen` has the last bytes of the first k addresses
 pub record Seen (addresses : List ℕ) (k : ℕ) (seen : List Bool) : Type 0 where
   pub room : length seen ≡ 256

@@ -1,20 +1,29 @@
 -- The calls: the order of their refusals, and what each answers and leaves.
 -- Assumes nothing.
-use Rattle.std.specs.Prelude.{ℕ, Bool, true, false, not, List, [], ◌∷◌}
-use Rattle.wire.specs.Answer.{answered}
+use Rattle.std.specs.Prelude.{ℕ, Bool, true, false, not, List, [], ◌∷◌, Result, Ok, Err}
+use Rattle.wire.specs.Answer.{answered, refuse}
 use Rattle.wire.specs.Refusal.{Rule, ◌when◌, first}
 use Rattle.wire.specs.Told.{Told, accepted, refused}
 use Rattle.turns.specs.Table.{empty_in, address_of, is_due, some, holds, next_due, lowest_empty, no_slot, no_address, unfit, with_address, with_due, asked}
 use Rattle.turns.specs.declared.Table.{Table}
-use Rattle.turns.specs.declared.Added.{Added}
-use Rattle.turns.specs.declared.Adding.{Adding}
-use Rattle.turns.specs.declared.Adding.TheVariants.{Slot as At, Refused as Unadded}
-use Rattle.turns.specs.declared.Changed.{Changed}
-use Rattle.turns.specs.declared.Changing.{Changing}
-use Rattle.turns.specs.declared.Changing.TheVariants.{Done, Refused as Unchanged}
-use Rattle.turns.specs.declared.Turned.{Turned}
-use Rattle.turns.specs.declared.Turning.{Turning}
-use Rattle.turns.specs.declared.Turning.TheVariants.{Slot, Refused}
+use Rattle.turns.specs.declared.Answered.{Answered}
+use Rattle.turns.specs.declared.Given.{Given}
+use Rattle.wire.specs.Numbered.{number_of}
+use Rattle.wire.specs.declared.refusals.Refusal.{Refusal}
+
+-- the source's types of these names
+abbrev pub Added : Type 0
+Added = Answered ℕ
+
+abbrev pub Changed : Type 0
+Changed = Answered Unit
+
+abbrev pub Turned : Type 0
+Turned = Answered Given
+
+-- an answer, and the table that is left
+abbrev pub answered_with : {A : Type 0} → Result A Refusal → Table → Answered A
+answered_with r t = record { answer = r; table = t }
 
 -- 102 slot empty
 abbrev pub is_empty : Table → ℕ → Bool
@@ -44,8 +53,8 @@ add_rules t a =
 -- the lowest empty slot gets the address; "an added slot is not due"
 unfoldable pub added : Table → ℕ → Added
 added t a =
-    answered (λ n. record { answer = Unadded n; table = t })
-    (record { answer = At (lowest_empty t); table = with_due (with_address t (lowest_empty t) a) (lowest_empty t) false })
+    answered (λ n. answered_with (refuse n) t)
+    (answered_with (Ok (lowest_empty t)) (with_due (with_address t (lowest_empty t) a) (lowest_empty t) false))
     (first (add_rules t a))
 
 -- marking, clearing and removing: the calls on a slot
@@ -57,7 +66,7 @@ slot_rules t k =
     ∷ []
 
 unfoldable pub changed : Table → ℕ → Table → Changed
-changed t k t' = answered (λ n. record { answer = Unchanged n; table = t }) (record { answer = Done; table = t' }) (first (slot_rules t k))
+changed t k t' = answered (λ n. answered_with (refuse n) t) (answered_with (Ok tt) t') (first (slot_rules t k))
 
 -- a removed slot is empty and not due; the last asked stays
 abbrev pub removed : Table → ℕ → Changed
@@ -78,19 +87,19 @@ turn_rules t =
 -- "a turn gives the next due slot", with its address, "and marks it not due"; it is then the last one asked
 unfoldable pub turned : Table → Turned
 turned t =
-    answered (λ n. record { answer = Refused n; table = t })
-    (record { answer = Slot (next_due t) (address_of t (next_due t)); table = asked (with_due t (next_due t) false) (next_due t) })
+    answered (λ n. answered_with (refuse n) t)
+    (answered_with (Ok (record { slot = next_due t; address = address_of t (next_due t) })) (asked (with_due t (next_due t) false) (next_due t)))
     (first (turn_rules t))
 
 -- ---- the paper's number and values: of adding the slot, of a turn the slot and its address
-abbrev pub told_adding : Adding → Told
-told_adding (At k) = accepted (k ∷ [])
-told_adding (Unadded n) = refused n
+abbrev pub told_adding : Result ℕ Refusal → Told
+told_adding (Ok k) = accepted (k ∷ [])
+told_adding (Err e) = refused (number_of e)
 
-abbrev pub told_changing : Changing → Told
-told_changing Done = accepted []
-told_changing (Unchanged n) = refused n
+abbrev pub told_changing : Result Unit Refusal → Told
+told_changing (Ok x) = accepted []
+told_changing (Err e) = refused (number_of e)
 
-abbrev pub told_turning : Turning → Told
-told_turning (Slot k a) = accepted (k ∷ a ∷ [])
-told_turning (Refused n) = refused n
+abbrev pub told_turning : Result Given Refusal → Told
+told_turning (Ok g) = accepted (g.slot ∷ g.address ∷ [])
+told_turning (Err e) = refused (number_of e)

@@ -1,6 +1,6 @@
 -- A table of 32 meter slots, the searches in it, and what makes it unfit. Slots count from 1.
 -- Assumes nothing.
-use Rattle.std.specs.Prelude.{ℕ, zero, suc, ◌+◌, ◌-◌, ◌%◌, ◌≤◌, Bool, false, not, ◌||◌, ◌&&◌, List, [], ◌∷◌, ltb, eqb, get_or, set, replicate}
+use Rattle.std.specs.Prelude.{ℕ, zero, suc, ◌+◌, ◌-◌, ◌%◌, ◌≤◌, Bool, false, not, ◌||◌, ◌&&◌, List, [], ◌∷◌, ltb, eqb, get_or, set, replicate, Option, None, Some}
 use Rattle.wire.specs.Refusal.{pick}
 use Rattle.turns.specs.declared.Table.{Table}
 
@@ -53,6 +53,11 @@ slots = round 32
 unfoldable pub first_of : (ℕ → Bool) → List ℕ → ℕ
 first_of test [] = 0
 first_of test (k ∷ ks) = pick (test k) k (first_of test ks)
+
+-- its place, which counts from 0
+abbrev pub place : ℕ → Option ℕ
+place zero = None
+place (suc k) = Some k
 
 -- whether there is a slot that passes
 unfoldable pub some : (ℕ → Bool) → Bool

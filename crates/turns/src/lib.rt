@@ -1,109 +1,59 @@
 // Fair turns on one line: a table of 32 meter slots, by value. What each call answers is in specs/.
 #![tactic(auto)]
 
-ghost use Rattle.std.specs.Prelude.{◌≡◌, false, ◌≤◌};
+ghost use Rattle.std.specs.Prelude.{◌≡◌, false, ◌+◌, ◌-◌, ◌<◌};
+ghost use Rattle.wire.specs.Answer.{judged};
 ghost use Rattle.wire.specs.Refusal.{first};
 ghost use Rattle.turns.specs.Table.{
   fresh,
   some,
+  place,
   next_after,
+  next_due,
   lowest_with,
+  lowest_empty,
+  with_due,
   no_slot,
   no_address,
   holds,
   held_twice,
   unfit_slot,
   unfit,
-  with_due,
-  table_of,
 };
-ghost use Rattle.turns.specs.Calls.{add_rules, slot_rules, turn_rules, added, changed, removed, marked, cleared, turned};
+ghost use Rattle.turns.specs.Calls.{add_rules, slot_rules, turn_rules, answered_with, added, changed, removed, marked, cleared, turned};
+
+use wire::Refusal;
 
 // Slot k stands at the place k - 1; an empty slot has address 0.
-#[derive(Clone, Copy)]
+#[derive(Clone, Copy, Debug, PartialEq, Eq)]
 pub struct Table {
+    // Two lists, as `lowest_with` and `next_after` of specs/Table.antt search them. An array of slots would hold 256 bytes for these 160, at each call by value.
     pub addresses: [u32; 32],
     pub due: [bool; 32],
     // The last asked slot.
     pub last: usize,
 }
 
-#[derive(Clone, Copy)]
-pub enum Adding {
-    Slot(usize),
-    Refused(u8),
-}
-
-#[derive(Clone, Copy)]
-pub struct Added {
-    pub answer: Adding,
+// What a call answers, and the table that it leaves.
+#[derive(Clone, Copy, Debug, PartialEq, Eq)]
+pub struct Answered<T> {
+    pub answer: Result<T, Refusal>,
     pub table: Table,
 }
 
-#[derive(Clone, Copy)]
-pub enum Changing {
-    Done,
-    Refused(u8),
+// The slot that a turn gives, and its address.
+#[derive(Clone, Copy, Debug, PartialEq, Eq)]
+pub struct Given {
+    pub slot: usize,
+    pub address: u32,
 }
 
-#[derive(Clone, Copy)]
-pub struct Changed {
-    pub answer: Changing,
-    pub table: Table,
-}
+// With the slot.
+pub type Added = Answered<usize>;
 
-#[derive(Clone, Copy)]
-pub enum Turning {
-    // The slot, and its address.
-    Slot(usize, u32),
-    Refused(u8),
-}
+pub type Changed = Answered<()>;
 
-#[derive(Clone, Copy)]
-pub struct Turned {
-    pub answer: Turning,
-    pub table: Table,
-}
-
-pub fn new() -> Table
-    ensures { result ≡ fresh }
-{
-    Table {
-        addresses: [0u32; 32],
-        due: [false; 32],
-        last: 32,
-    }
-}
-
-// The lowest slot with that address, 0 for none.
-fn lowest_with(addresses: &[u32; 32], address: u32) -> usize
-    ensures { result ≡ lowest_with addresses.now address }
-{
-    let mut k = 0;
-    while k < 32 {
-        k += 1;
-        if addresses[k - 1] == address {
-            return k;
-        }
-    }
-    0
-}
-
-// The next due slot after `last`, going round, 0 for none.
-fn next_after(due: &[bool; 32], last: usize) -> usize
-    ensures { result ≡ next_after due.now last }
-{
-    let mut slot = last;
-    let mut left = 32usize;
-    while 0 < left {
-        slot = slot % 32 + 1;
-        if due[slot - 1] {
-            return slot;
-        }
-        left -= 1;
-    }
-    0
-}
+pub type Turned = Answered<Given>;
 
 fn no_slot(k: usize) -> bool
     ensures { result ≡ no_slot k }
@@ -117,215 +67,204 @@ fn no_address(address: u32) -> bool
     (address < 1) | (99_999_999 < address)
 }
 
-// Where it is not `seen`, no lower slot has the same address.
-fn unfit_slot(addresses: &[u32; 32], due: &[bool; 32], k: usize, seen: bool) -> bool
-    requires from_first { 1 ≤ k }
-    requires to_last { k ≤ 32 }
-    requires unseen_once { (seen ≡ false → held_twice addresses.now k ≡ false) }
-    ensures { result ≡ unfit_slot addresses.now due.now k }
-{
-    let a = addresses[k - 1];
-    if no_address(a) {
-        return (a != 0) | due[k - 1];
+impl Table {
+    // The place of the lowest slot with that address.
+    fn lowest_with(&self, address: u32) -> Option<usize>
+        ensures { result ≡ place (lowest_with self.now.addresses address) }
+    {
+        self.addresses.iter().position(|a| *a == address)
     }
-    if seen {
-        return lowest_with(addresses, a) != k;
-    }
-    false
-}
 
-// An address is searched for only where a lower slot's ends with the same byte; an empty slot's is 00.
-fn some_unfit(addresses: &[u32; 32], due: &[bool; 32]) -> bool
-    ensures { result ≡ some (unfit_slot addresses.now due.now) }
-{
-    let mut seen = [false; 256];
-    let mut k = 0;
-    while k < 32 {
-        k += 1;
-        let end = (addresses[k - 1] % 256) as usize;
-        if unfit_slot(addresses, due, k, seen[end]) {
-            return true;
+    // The place of the next due slot after the last one asked, going round.
+    fn next_after(&self) -> Option<usize>
+        ensures { result ≡ place (next_due self.now) }
+    {
+        let start = self.last % 32;
+        for step in 0..32 {
+            let next = (start + step) % 32;
+            if self.due[next] {
+                return Some(next);
+            }
         }
-        seen[end] = true;
+        None
     }
-    false
+
+    // Where it is not `seen`, no lower slot has the same address.
+    fn unfit_slot(&self, at: usize, seen: bool) -> bool
+        requires within { at < 32 }
+        requires unseen_once { (seen ≡ false → held_twice self.now.addresses (at + 1) ≡ false) }
+        ensures { result ≡ unfit_slot self.now.addresses self.now.due (at + 1) }
+    {
+        let address = self.addresses[at];
+        if no_address(address) {
+            return (address != 0) | self.due[at];
+        }
+        if seen {
+            return self.lowest_with(address) != Some(at);
+        }
+        false
+    }
+
+    // An address is searched for only where a lower slot's ends with the same byte; an empty slot's is 00.
+    fn some_unfit(&self) -> bool
+        ensures { result ≡ some (unfit_slot self.now.addresses self.now.due) }
+    {
+        let mut seen = [false; 256];
+        for (at, address) in self.addresses.iter().enumerate() {
+            let end = (*address % 256) as usize;
+            if self.unfit_slot(at, seen[end]) {
+                return true;
+            }
+            seen[end] = true;
+        }
+        false
+    }
+
+    fn is_unfit(&self) -> bool
+        ensures { result ≡ unfit self.now }
+    {
+        no_slot(self.last) | self.some_unfit()
+    }
+
+    fn is_present(&self, address: u32) -> bool
+        ensures { result ≡ some (holds self.now.addresses address) }
+    {
+        self.lowest_with(address).is_some()
+    }
+
+    // The place for an address that is added: the lowest empty one.
+    fn free_for(&self, address: u32) -> Result<usize, Refusal>
+        ensures { result ≡ judged (lowest_empty self.now - 1) (first (add_rules self.now address)) }
+    {
+        if self.is_unfit() {
+            return Err(Refusal::Unfit);
+        }
+        if no_address(address) {
+            return Err(Refusal::NoAddress);
+        }
+        if self.is_present(address) {
+            return Err(Refusal::AddressPresent);
+        }
+        self.lowest_with(0).ok_or(Refusal::NoEmptySlot)
+    }
+
+    // The place of a slot with an address.
+    fn place_of(&self, slot: usize) -> Result<usize, Refusal>
+        ensures { result ≡ judged (slot - 1) (first (slot_rules self.now slot)) }
+    {
+        if self.is_unfit() {
+            return Err(Refusal::Unfit);
+        }
+        if no_slot(slot) {
+            return Err(Refusal::NoSlot);
+        }
+        if self.addresses[slot - 1] == 0 {
+            return Err(Refusal::EmptySlot);
+        }
+        Ok(slot - 1)
+    }
+
+    // The place of the slot whose turn it is.
+    fn next_due(&self) -> Result<usize, Refusal>
+        ensures { result ≡ judged (next_due self.now - 1) (first (turn_rules self.now)) }
+    {
+        if self.is_unfit() {
+            return Err(Refusal::Unfit);
+        }
+        self.next_after().ok_or(Refusal::NobodyDue)
+    }
+
+    #[tactic(auto, using(crate::proofs::Places::free_within))]
+    fn add(&mut self, address: u32) -> Result<usize, Refusal>
+        ensures { answered_with result self.new ≡ added self.old address }
+    {
+        let free = self.free_for(address)?;
+        self.addresses[free] = address;
+        self.due[free] = false;
+        Ok(free + 1)
+    }
+
+    #[tactic(auto, using(crate::proofs::Places::slot_within))]
+    fn remove(&mut self, slot: usize) -> Result<(), Refusal>
+        ensures { answered_with result self.new ≡ removed self.old slot }
+    {
+        let at = self.place_of(slot)?;
+        self.addresses[at] = 0;
+        self.due[at] = false;
+        Ok(())
+    }
+
+    #[tactic(auto, using(crate::proofs::Places::slot_within))]
+    fn set_due(&mut self, slot: usize, value: bool) -> Result<(), Refusal>
+        ensures { answered_with result self.new ≡ changed self.old slot (with_due self.old slot value) }
+    {
+        let at = self.place_of(slot)?;
+        self.due[at] = value;
+        Ok(())
+    }
+
+    #[tactic(auto, using(crate::proofs::Places::next_within))]
+    fn turn(&mut self) -> Result<Given, Refusal>
+        ensures { answered_with result self.new ≡ turned self.old }
+    {
+        let next = self.next_due()?;
+        self.due[next] = false;
+        self.last = next + 1;
+        Ok(Given {
+            slot: next + 1,
+            address: self.addresses[next],
+        })
+    }
 }
 
-fn is_unfit(addresses: &[u32; 32], due: &[bool; 32], last: usize) -> bool
-    ensures { result ≡ unfit (table_of addresses.now due.now last) }
+pub fn new() -> Table
+    ensures { result ≡ fresh }
 {
-    no_slot(last) | some_unfit(addresses, due)
+    Table {
+        addresses: [0u32; 32],
+        due: [false; 32],
+        last: 32,
+    }
 }
 
-fn is_present(addresses: &[u32; 32], address: u32) -> bool
-    ensures { result ≡ some (holds addresses.now address) }
-{
-    lowest_with(addresses, address) != 0
-}
-
-// `free` is the lowest empty slot.
-fn add_fault(addresses: &[u32; 32], due: &[bool; 32], last: usize, address: u32, free: usize) -> u8
-    requires { free ≡ lowest_with addresses.now 0 }
-    ensures { result ≡ first (add_rules (table_of addresses.now due.now last) address) }
-{
-    if is_unfit(addresses, due, last) {
-        return 20;
-    }
-    if no_address(address) {
-        return 100;
-    }
-    if is_present(addresses, address) {
-        return 103;
-    }
-    if free == 0 {
-        return 104;
-    }
-    0
-}
-
-fn slot_fault(addresses: &[u32; 32], due: &[bool; 32], last: usize, slot: usize) -> u8
-    ensures { result ≡ first (slot_rules (table_of addresses.now due.now last) slot) }
-{
-    if is_unfit(addresses, due, last) {
-        return 20;
-    }
-    if no_slot(slot) {
-        return 101;
-    }
-    if addresses[slot - 1] == 0 {
-        return 102;
-    }
-    0
-}
-
-// `next` is the next due slot.
-fn turn_fault(addresses: &[u32; 32], due: &[bool; 32], last: usize, next: usize) -> u8
-    requires { next ≡ next_after due.now last }
-    ensures { result ≡ first (turn_rules (table_of addresses.now due.now last)) }
-{
-    if is_unfit(addresses, due, last) {
-        return 20;
-    }
-    if next == 0 {
-        return 105;
-    }
-    0
-}
+// The calls hand the table over and back. Each is a method of its own: one function for all would take the method as a closure, and be no shorter.
 
 // Puts the address into the lowest empty slot, which is not due, and answers the slot.
-pub fn add(t: Table, address: u32) -> Added
+pub fn add(mut t: Table, address: u32) -> Added
     ensures { result ≡ added t address }
 {
-    let mut addresses = t.addresses;
-    let mut due = t.due;
-    let last = t.last;
-    let free = lowest_with(&addresses, 0);
-    let n = add_fault(&addresses, &due, last, address, free);
-    if n != 0 {
-        return Added {
-            answer: Adding::Refused(n),
-            table: t,
-        };
-    }
-    addresses[free - 1] = address;
-    due[free - 1] = false;
-    Added {
-        answer: Adding::Slot(free),
-        table: Table {
-            addresses,
-            due,
-            last,
-        },
-    }
+    let answer = t.add(address);
+    Answered { answer, table: t }
 }
 
 // Empties the slot, which is then not due. The last asked slot stays.
-pub fn remove(t: Table, slot: usize) -> Changed
+pub fn remove(mut t: Table, slot: usize) -> Changed
     ensures { result ≡ removed t slot }
 {
-    let mut addresses = t.addresses;
-    let mut due = t.due;
-    let last = t.last;
-    let n = slot_fault(&addresses, &due, last, slot);
-    if n != 0 {
-        return Changed {
-            answer: Changing::Refused(n),
-            table: t,
-        };
-    }
-    addresses[slot - 1] = 0;
-    due[slot - 1] = false;
-    Changed {
-        answer: Changing::Done,
-        table: Table {
-            addresses,
-            due,
-            last,
-        },
-    }
-}
-
-fn with_due(t: Table, slot: usize, value: bool) -> Changed
-    ensures { result ≡ changed t slot (with_due t slot value) }
-{
-    let addresses = t.addresses;
-    let mut due = t.due;
-    let last = t.last;
-    let n = slot_fault(&addresses, &due, last, slot);
-    if n != 0 {
-        return Changed {
-            answer: Changing::Refused(n),
-            table: t,
-        };
-    }
-    due[slot - 1] = value;
-    Changed {
-        answer: Changing::Done,
-        table: Table {
-            addresses,
-            due,
-            last,
-        },
-    }
+    let answer = t.remove(slot);
+    Answered { answer, table: t }
 }
 
 // Makes the slot due.
-pub fn mark(t: Table, slot: usize) -> Changed
+pub fn mark(mut t: Table, slot: usize) -> Changed
     ensures { result ≡ marked t slot }
 {
-    with_due(t, slot, true)
+    let answer = t.set_due(slot, true);
+    Answered { answer, table: t }
 }
 
 // Makes the slot not due.
-pub fn clear(t: Table, slot: usize) -> Changed
+pub fn clear(mut t: Table, slot: usize) -> Changed
     ensures { result ≡ cleared t slot }
 {
-    with_due(t, slot, false)
+    let answer = t.set_due(slot, false);
+    Answered { answer, table: t }
 }
 
 // Gives the next due slot after the last one asked, going round, and its address. It is then not due, and the last one asked.
-pub fn turn(t: Table) -> Turned
+pub fn turn(mut t: Table) -> Turned
     ensures { result ≡ turned t }
 {
-    let addresses = t.addresses;
-    let mut due = t.due;
-    let last = t.last;
-    let next = next_after(&due, last);
-    let n = turn_fault(&addresses, &due, last, next);
-    if n != 0 {
-        return Turned {
-            answer: Turning::Refused(n),
-            table: t,
-        };
-    }
-    due[next - 1] = false;
-    let address = addresses[next - 1];
-    Turned {
-        answer: Turning::Slot(next, address),
-        table: Table {
-            addresses,
-            due,
-            last: next,
-        },
-    }
+    let answer = t.turn();
+    Answered { answer, table: t }
 }

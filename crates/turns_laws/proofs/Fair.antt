@@ -8,17 +8,14 @@ use mathlib.Core.List.{List, [], ◌∷◌}
 use Prim.Native.Nat.{ℕ, suc, ◌<◌, ◌≤◌}
 use native.Mathlib.Omega.{arith}
 use lib.ListN.{length}
+use Rattle.std.specs.Prelude.{Ok}
+use Rattle.wire.specs.Answer.{answered, refuse}
 use Rattle.wire.specs.Refusal.{first}
 use Rattle.wire.specs.Told.{Told, accepted}
-use Rattle.wire.proofs.Answer.{answered_none}
-use Rattle.wire.proofs.Refusal.{first_none}
+use Rattle.wire.proofs.Rules.{first_none}
 use Rattle.turns.specs.Table.{IsSlot, unfit, address_of, is_due, next_after, next_due, with_due, asked}
-use Rattle.turns.specs.Calls.{turn_rules, turned, told_turning}
+use Rattle.turns.specs.Calls.{answered_with, Turned, Changed, Added, turn_rules, turned, told_turning}
 use Rattle.turns.specs.declared.Table.{Table}
-use Rattle.turns.specs.declared.Added.{Added}
-use Rattle.turns.specs.declared.Changed.{Changed}
-use Rattle.turns.specs.declared.Turned.{Turned}
-use Rattle.turns.specs.declared.Turning.TheVariants.{Slot, Refused as Unturned}
 use Rattle.turns.proofs.Round.{Ahead, Between, reached, on_the_way, is_some}
 use Rattle.turns_laws.specs.Fit.{Fit}
 use Rattle.turns_laws.specs.Course.{Remove, Clear, Turn, Exchange, exchange, ByCall, of_add, of_remove, of_mark, of_clear, of_turn, Course, EachCall}
@@ -33,9 +30,9 @@ turn_accepted t f k s d = first_none (turn_rules t) (fit_is t f, (ap not (is_som
 
 -- an accepted turn gives the next due slot
 turn_is : (t : Table) → first (turn_rules t) ≡ 0
-    → turned t ≡ record { answer = Slot (next_due t) (address_of t (next_due t)); table = asked (with_due t (next_due t) false) (next_due t) }
+    → turned t ≡ answered_with (Ok (record { slot = next_due t; address = address_of t (next_due t) })) (asked (with_due t (next_due t) false) (next_due t))
 unfolding turned
-turn_is t z = answered_none (λ (n : ℕ). record { answer = Unturned n; table = t }) _ (first (turn_rules t)) z
+turn_is t z = ap (answered (λ (n : ℕ). answered_with (refuse n) t) _) z
 
 -- slot k waits in t: it is due, with address a, and d + 1 steps on from the last asked
 record Due (k a d : ℕ) (t : Table) : Type 0 where

@@ -10,19 +10,14 @@ use lib.Dec.{ltb}
 use lib.ListN.{length, get_or, drop, length-set}
 use lib.Seq.{get_or-set_same}
 use borrow.Author.Tests.{ltb-false, le-ltb, eqb-true}
+use Rattle.wire.specs.Answer.{answered, refuse}
 use Rattle.wire.specs.Refusal.{first}
 use Rattle.wire.specs.Told.{Told, accepted}
-use Rattle.wire.proofs.Answer.{answered_none}
 use Rattle.wire.proofs.Bools.{or_neither, neither_or}
-use Rattle.wire.proofs.Refusal.{none_first, first_none}
+use Rattle.wire.proofs.Rules.{none_first, first_none}
 use Rattle.turns.specs.Table.{IsSlot, address_of, lowest_empty, with_address, with_due}
-use Rattle.turns.specs.Calls.{is_empty, add_rules, slot_rules, added, changed, removed, told_adding, told_changing}
+use Rattle.turns.specs.Calls.{answered_with, Turned, Changed, Added, is_empty, add_rules, slot_rules, added, changed, removed, told_adding, told_changing}
 use Rattle.turns.specs.declared.Table.{Table}
-use Rattle.turns.specs.declared.Added.{Added}
-use Rattle.turns.specs.declared.Adding.TheVariants.{Refused as Unadded}
-use Rattle.turns.specs.declared.Changed.{Changed}
-use Rattle.turns.specs.declared.Changing.TheVariants.{Refused as Unchanged}
-use Rattle.turns.specs.declared.Turned.{Turned}
 use Rattle.turns.proofs.Answers.{add_free, slot_there}
 use Rattle.turns_laws.specs.Fit.{Fit}
 use Rattle.turns_laws.specs.Course.{Call, Add, Remove, Mark, Clear, Turn, Exchange, exchange, ByCall, of_add, of_remove, of_mark, of_clear, of_turn, Course, EachCall}
@@ -104,7 +99,7 @@ module _ (t : Table) (w : Whole t) (k : ℕ) (s : IsSlot k) where
   add_effect : (a : ℕ) → Effect k t (exchange (Add a) (told_adding (added t a).answer)) (added t a).table
   unfolding added
   add_effect a =
-      either (λ (r : Added). Effect k t (exchange (Add a) (told_adding r.answer)) r.table) (λ (n : ℕ). record { answer = Unadded n; table = t }) _ (first (add_rules t a))
+      either (λ (r : Added). Effect k t (exchange (Add a) (told_adding r.answer)) r.table) (λ (n : ℕ). answered_with (refuse n) t) _ (first (add_rules t a))
       (λ m. stood refl (no_remove k (Add a) refl) (λ b q. let z : ◌≡◌ {A = ℕ} 0 1 = ap (λ (x : Exchange). length x.told.values) q in absurd (omega arith)))
       (λ (z : first (add_rules t a) ≡ 0). ⊎_elim (λ (q : k ≡ lowest_empty t). here z q) (λ (q : k ≡ lowest_empty t → ⊥). there z q) (same_or_not k (lowest_empty t)))
     where
@@ -134,7 +129,7 @@ module _ (t : Table) (w : Whole t) (k : ℕ) (s : IsSlot k) where
       gone true e = changed_either (λ u. address_of u k ≡ 0) t (eqb-true _ _ e) k _ (λ z. set_default t.addresses (k - 1) 0)
       gone false e =
           ap (λ (r : Changed). address_of r.table k)
-          (answered_none (λ (n : ℕ). record { answer = Unchanged n; table = t }) _ (first (slot_rules t k))
+          (ap (answered (λ (n : ℕ). answered_with (refuse n) t) _)
           (first_none (slot_rules t k) (fit_is t w.fit, (neither_or _ _ (le-ltb _ _ s.0) (le-ltb _ _ s.1), (e, tt)))))
           ∙ set_default t.addresses (k - 1) 0
 

@@ -7,19 +7,13 @@ use mathlib.Core.Bool.{Bool, true, false, true≢false}
 use Prim.Native.Nat.{ℕ, zero, suc}
 use lib.Dec.{ltb}
 use borrow.Author.Tests.{ltb-false, eqb-false}
-use Rattle.wire.specs.Answer.{answered}
+use Rattle.wire.specs.Answer.{answered, refuse}
 use Rattle.wire.specs.Refusal.{first}
 use Rattle.wire.proofs.Bools.{or_neither}
-use Rattle.wire.proofs.Refusal.{none_first}
+use Rattle.wire.proofs.Rules.{none_first}
 use Rattle.turns.specs.Table.{IsSlot, address_of, is_due, holds, next_due, lowest_empty, with_address, with_due, asked}
-use Rattle.turns.specs.Calls.{add_rules, slot_rules, turn_rules, added, changed, removed, marked, cleared, turned}
+use Rattle.turns.specs.Calls.{answered_with, Turned, Changed, Added, add_rules, slot_rules, turn_rules, added, changed, removed, marked, cleared, turned}
 use Rattle.turns.specs.declared.Table.{Table}
-use Rattle.turns.specs.declared.Added.{Added}
-use Rattle.turns.specs.declared.Adding.TheVariants.{Refused as Unadded}
-use Rattle.turns.specs.declared.Changed.{Changed}
-use Rattle.turns.specs.declared.Changing.TheVariants.{Refused as Unchanged}
-use Rattle.turns.specs.declared.Turned.{Turned}
-use Rattle.turns.specs.declared.Turning.TheVariants.{Refused as Unturned}
 use Rattle.turns.proofs.Answers.{add_free, slot_there, turn_next}
 use Rattle.turns.proofs.Round.{none_is}
 use Rattle.turns_laws.specs.Fit.{Fit}
@@ -33,15 +27,15 @@ either P refuse accept (suc n) p h = p (suc n)
 module _ (P : Table → Type 0) (t : Table) (given : P t) where
   pub added_either : (a : ℕ) → (first (add_rules t a) ≡ 0 → P (with_due (with_address t (lowest_empty t) a) (lowest_empty t) false)) → P (added t a).table
   unfolding added
-  added_either a h = either (λ (r : Added). P r.table) (λ (n : ℕ). record { answer = Unadded n; table = t }) _ (first (add_rules t a)) (λ m. given) h
+  added_either a h = either (λ (r : Added). P r.table) (λ (n : ℕ). answered_with (refuse n) t) _ (first (add_rules t a)) (λ m. given) h
 
   pub changed_either : (k : ℕ) (t' : Table) → (first (slot_rules t k) ≡ 0 → P t') → P (changed t k t').table
   unfolding changed
-  changed_either k t' h = either (λ (r : Changed). P r.table) (λ (n : ℕ). record { answer = Unchanged n; table = t }) _ (first (slot_rules t k)) (λ m. given) h
+  changed_either k t' h = either (λ (r : Changed). P r.table) (λ (n : ℕ). answered_with (refuse n) t) _ (first (slot_rules t k)) (λ m. given) h
 
   pub turned_either : (first (turn_rules t) ≡ 0 → P (asked (with_due t (next_due t) false) (next_due t))) → P (turned t).table
   unfolding turned
-  turned_either h = either (λ (r : Turned). P r.table) (λ (n : ℕ). record { answer = Unturned n; table = t }) _ (first (turn_rules t)) (λ m. given) h
+  turned_either h = either (λ (r : Turned). P r.table) (λ (n : ℕ). answered_with (refuse n) t) _ (first (turn_rules t)) (λ m. given) h
 
 module _ (t : Table) (f : Fit t) where
   -- a slot that is due has an address

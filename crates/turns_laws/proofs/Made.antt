@@ -9,18 +9,13 @@ use native.Mathlib.Omega.{arith}
 use lib.Dec.{T, eqb}
 use lib.ListN.{drop, get_or-replicate}
 use borrow.Author.Tests.{eqb-false, not-true}
+use Rattle.wire.specs.Answer.{refuse}
 use Rattle.wire.specs.Refusal.{Rule, ◌when◌, pick, first}
 use Rattle.wire.proofs.Answer.{told_number}
 use Rattle.wire.proofs.Bools.{T_true, true_T, and_both}
 use Rattle.turns.specs.Table.{IsSlot, fresh, unfit, address_of, some, onward, first_of, lowest_with, unfit_slot}
-use Rattle.turns.specs.Calls.{add_rules, slot_rules, turn_rules, added, changed, turned, told_adding, told_changing, told_turning}
+use Rattle.turns.specs.Calls.{answered_with, Turned, Changed, Added, add_rules, slot_rules, turn_rules, added, changed, turned, told_adding, told_changing, told_turning}
 use Rattle.turns.specs.declared.Table.{Table}
-use Rattle.turns.specs.declared.Added.{Added}
-use Rattle.turns.specs.declared.Adding.TheVariants.{Refused as Unadded}
-use Rattle.turns.specs.declared.Changed.{Changed}
-use Rattle.turns.specs.declared.Changing.TheVariants.{Refused as Unchanged}
-use Rattle.turns.specs.declared.Turned.{Turned}
-use Rattle.turns.specs.declared.Turning.TheVariants.{Refused as Unturned}
 use Rattle.turns_laws.specs.Course.{Exchange, ByCall, of_add, of_remove, of_mark, of_clear, of_turn, Course, EachCall, ByNew, of_new, Made}
 use Rattle.turns_laws.specs.Held.{Holds, Stays, AddedAt}
 use Rattle.turns_laws.proofs.Fitness.{is_fit, fit_is}
@@ -62,21 +57,21 @@ change_not_20 : (t : Table) (k : ℕ) (t' : Table) (r : Changed) → r ≡ chang
 unfolding changed
 change_not_20 t k t' r met f z =
     later t (drop 1 (slot_rules t k)) _ f tt
-    (told_number (λ (n : ℕ). record { answer = Unchanged n; table = t }) _ (λ (x : Changed). (told_changing x.answer).number) (λ n. refl) refl (first (slot_rules t k)))
+    (told_number (λ (n : ℕ). answered_with (refuse n) t) _ (λ (x : Changed). (told_changing x.answer).number) (λ n. refl) (slot_rules t k) tt refl)
     (ap (λ (x : Changed). (told_changing x.answer).number) (sym met) ∙ z)
 
 not_20 : (t : Table) (x : Exchange) (v : Table) → ByCall t x v → unfit t ≡ false → x.told.number ≡ 20 → ⊥
 unfolding added turned
 not_20 _ _ _ (of_add κs c r e met) f z =
     later c.0 (drop 1 (add_rules c.0 c.1.0)) _ f tt
-    (told_number (λ (n : ℕ). record { answer = Unadded n; table = c.0 }) _ (λ (x : Added). (told_adding x.answer).number) (λ n. refl) refl (first (add_rules c.0 c.1.0)))
+    (told_number (λ (n : ℕ). answered_with (refuse n) c.0) _ (λ (x : Added). (told_adding x.answer).number) (λ n. refl) (add_rules c.0 c.1.0) tt refl)
     (ap (λ (x : Added). (told_adding x.answer).number) (sym met) ∙ z)
 not_20 _ _ _ (of_remove κs c r e met) f z = change_not_20 c.0 c.1.0 _ r met f z
 not_20 _ _ _ (of_mark κs c r e met) f z = change_not_20 c.0 c.1.0 _ r met f z
 not_20 _ _ _ (of_clear κs c r e met) f z = change_not_20 c.0 c.1.0 _ r met f z
 not_20 _ _ _ (of_turn κs c r e met) f z =
     later c.0 (drop 1 (turn_rules c.0)) _ f tt
-    (told_number (λ (n : ℕ). record { answer = Unturned n; table = c.0 }) _ (λ (x : Turned). (told_turning x.answer).number) (λ n. refl) refl (first (turn_rules c.0)))
+    (told_number (λ (n : ℕ). answered_with (refuse n) c.0) _ (λ (x : Turned). (told_turning x.answer).number) (λ n. refl) (turn_rules c.0) tt refl)
     (ap (λ (x : Turned). (told_turning x.answer).number) (sym met) ∙ z)
 
 module _ (xs : List Exchange) (u : Table) (m : Made xs u) where

@@ -1,144 +1,99 @@
 // Acts 71 to 80: SM160 datagrams, and the read-file request and reply.
-use crate::{say, size_at};
-use sm160_datagram::{DatagramRead, data_of, options_of, read_datagram};
-use sm160_read_file::{ReplyRead, RequestRead};
-use std::io::Stdout;
-use wire::{Written, byte_at, front, le32_at, le64_at, rest};
+use crate::case::Case;
+use crate::say::{Line, Said, Stop};
+use sm160_datagram::{
+    data_of, datagram_fault, options_of, put_closing, put_opening, read_datagram, write_datagram,
+};
+use sm160_read_file::{message_of, name_of, read_reply, read_request, write_reply, write_request};
+use wire::{Written, front};
 
 // Act 72: with the options.
-fn with_options(to: Stdout, bytes: &[u8]) -> bool {
-    match read_datagram(bytes) {
-        DatagramRead::Datagram(kind) => {
-            let part = options_of(bytes);
-            let words = [
-                0,
-                kind as u64,
-                part.len() as u64,
-                data_of(bytes).len() as u64,
-            ];
-            say::line(to, &words, part)
-        }
-        DatagramRead::Refused(n) => say::refused(to, n),
-    }
+fn with_options(line: &mut Line, bytes: &[u8]) -> Said {
+    let kind = read_datagram(bytes)?;
+    let options = options_of(bytes);
+    line.say(
+        &[
+            0,
+            kind as u64,
+            options.len() as u64,
+            data_of(bytes).len() as u64,
+        ],
+        options,
+    )
 }
 
 // Act 73: with the data.
-fn with_data(to: Stdout, bytes: &[u8]) -> bool {
-    match read_datagram(bytes) {
-        DatagramRead::Datagram(kind) => say::line(to, &[0, kind as u64], data_of(bytes)),
-        DatagramRead::Refused(n) => say::refused(to, n),
-    }
+fn with_data(line: &mut Line, bytes: &[u8]) -> Said {
+    let kind = read_datagram(bytes)?;
+    line.say(&[0, kind as u64], data_of(bytes))
 }
 
-fn request(to: Stdout, bytes: &[u8]) -> bool {
-    match sm160_read_file::read_request(bytes) {
-        RequestRead::Request { offset, size } => say::line(
-            to,
-            &[0, offset, size],
-            sm160_read_file::name_of(bytes),
-        ),
-        RequestRead::Refused(n) => say::refused(to, n),
-    }
+fn request(line: &mut Line, bytes: &[u8]) -> Said {
+    let r = read_request(bytes)?;
+    line.say(&[0, r.offset, r.size], name_of(bytes))
 }
 
-fn reply(to: Stdout, bytes: &[u8]) -> bool {
-    match sm160_read_file::read_reply(bytes) {
-        ReplyRead::Reply(status) => {
-            let words = [0, status as u64, data_of(bytes).len() as u64];
-            say::line(to, &words, sm160_read_file::message_of(bytes))
-        }
-        ReplyRead::Refused(n) => say::refused(to, n),
-    }
+fn reply(line: &mut Line, bytes: &[u8]) -> Said {
+    let status = read_reply(bytes)?;
+    line.say(
+        &[0, status as u64, data_of(bytes).len() as u64],
+        message_of(bytes),
+    )
 }
 
-// A writer that takes two byte strings is given them as one: the second number says where it is cut.
-fn write(act: u8, numbers: &[u8], bytes: &[u8], out: &mut [u8]) -> Written {
-    let cut = size_at(numbers, 8);
-    match act {
-        74 => sm160_datagram::write_datagram(
-            byte_at(numbers, 0),
-            front(bytes, cut),
-            rest(bytes, cut),
-            out,
-        ),
-        76 => sm160_read_file::write_request(le64_at(numbers, 0), le64_at(numbers, 8), bytes, out),
-        _ => sm160_read_file::write_reply(
-            le32_at(numbers, 0),
-            front(bytes, cut),
-            rest(bytes, cut),
-            out,
-        ),
-    }
-}
-
-// A writer's answer, and the CRC-32 of the whole of its output.
-fn summed(to: Stdout, w: Written, out: &[u8]) -> bool {
-    let crc = checksum::crc32_from(0, out) as u64;
-    match w {
-        Written::Length(n) => say::numbers(to, &[0, n as u64, crc]),
-        Written::Refused(n) => say::numbers(to, &[n as u64, crc]),
+// A writer that takes two byte strings is given them as one.
+fn write(case: Case, out: &mut [u8]) -> Written {
+    let (first, second) = case.cut_at(1);
+    match case.act {
+        74 => write_datagram(case.byte(0), first, second, out),
+        76 => write_request(case.long(0), case.long(1), case.bytes, out),
+        _ => write_reply(case.word(0), first, second, out),
     }
 }
 
 fn write_text(kind: u8, text: &[u8], out: &mut [u8]) -> Written {
     if kind == 7 {
-        sm160_read_file::write_request(0, u64::MAX, text, out)
+        write_request(0, u64::MAX, text, out)
     } else {
-        sm160_read_file::write_reply(0, text, b"", out)
+        write_reply(0, text, b"", out)
     }
 }
 
-fn long_text(to: Stdout, kind: u8, text: &[u8], out: &mut [u8]) -> bool {
-    let w = write_text(kind, text, out);
-    summed(to, w, out)
-}
-
-// Into the first n bytes of a buffer.
-fn long_into(to: Stdout, kind: u8, text: &[u8], buffer: &mut [u8], n: usize) -> bool {
-    if n <= buffer.len() {
-        long_text(to, kind, text, &mut buffer[..n])
-    } else {
-        false
-    }
-}
-
-// Act 79: a text of n zero bytes and an output of zero bytes, longer than a case can hold.
-fn long(to: Stdout, kind: u8, n: usize, room: usize) -> bool {
+// Act 79: a text of n zero bytes and an output of zero bytes, longer than a case can hold. The CRC-32 stands for the output.
+fn long(line: &mut Line, kind: u8, n: usize, room: usize) -> Said {
     let text = [0u8; 65600];
     let mut buffer = [0u8; 65700];
-    long_into(to, kind, front(&text, n), &mut buffer, room)
+    let out = buffer.get_mut(..room).ok_or(Stop::NoBuffer)?;
+    match write_text(kind, front(&text, n), out) {
+        Ok(length) => line.words(&[0, length as u64])?,
+        Err(refusal) => line.words(&[refusal.number() as u64])?,
+    }
+    line.numbers(&[checksum::crc32_from(0, out) as u64])
 }
 
 // Act 80: the two ends of a datagram.
-fn put_ends(to: Stdout, numbers: &[u8], out: &mut [u8]) -> bool {
-    sm160_datagram::put_opening(out, byte_at(numbers, 0), le32_at(numbers, 8));
-    sm160_datagram::put_closing(out, size_at(numbers, 16), le64_at(numbers, 24));
-    say::line(to, &[0], out)
+fn put_ends(line: &mut Line, case: Case, out: &mut [u8]) -> Said {
+    put_opening(out, case.byte(0), case.word(1));
+    put_closing(out, case.size(2), case.long(3));
+    line.say(&[0], out)
 }
 
-fn read(to: Stdout, act: u8, bytes: &[u8]) -> bool {
-    match act {
-        72 => with_options(to, bytes),
-        73 => with_data(to, bytes),
-        75 => request(to, bytes),
-        _ => reply(to, bytes),
-    }
-}
-
-pub fn answer(to: Stdout, act: u8, numbers: &[u8], bytes: &[u8], out: &mut [u8]) -> bool {
-    match act {
-        71 => say::refused(to, sm160_datagram::datagram_fault(bytes, out)),
-        72 | 73 | 75 | 77 => read(to, act, bytes),
-        79 => long(
-            to,
-            byte_at(numbers, 0),
-            size_at(numbers, 8),
-            size_at(numbers, 16),
-        ),
-        80 => put_ends(to, numbers, out),
+pub fn answer(line: &mut Line, case: Case, out: &mut [u8]) -> Said {
+    let bytes = case.bytes;
+    match case.act {
+        71 => {
+            datagram_fault(bytes, out)?;
+            line.numbers(&[0])
+        }
+        72 => with_options(line, bytes),
+        73 => with_data(line, bytes),
+        75 => request(line, bytes),
+        77 => reply(line, bytes),
+        79 => long(line, case.byte(0), case.size(1), case.size(2)),
+        80 => put_ends(line, case, out),
         _ => {
-            let w = write(act, numbers, bytes, out);
-            say::written(to, w, out)
+            let w = write(case, out);
+            line.written(w, out)
         }
     }
 }

@@ -1,51 +1,40 @@
 // Acts 1 to 3, 9, 61 to 63 and 70: the checksums, dates and digits.
-use crate::say;
+use crate::case::Case;
+use crate::say::{Line, Said};
 use checksum::{checksum, checksum_from, crc32_from, lrc, sum_byte, sum_from};
 use date::{date_at, is_date};
-use std::io::Stdout;
-use wire::{byte_at, digit, digit_of};
+use wire::{digit, digit_of};
 
-// Act 9: a message in two buffers.
-fn stretches(to: Stdout, start: u16, first: &[u8], second: &[u8]) -> bool {
-    let c = checksum_from(start, first);
-    say::numbers(to, &[0, c as u64, checksum_from(c, second) as u64])
-}
-
-// Act 62: the same of the sum modulo 256.
-fn sum_stretches(to: Stdout, start: u8, first: &[u8], second: &[u8]) -> bool {
-    let s = sum_from(start, first);
-    say::numbers(to, &[0, s as u64, sum_from(s, second) as u64])
+// Acts 9, 62 and 70: a message in two stretches, by a sum over the bytes so far and a stretch.
+fn stretches<S: Copy + Into<u64>, F: Fn(S, &[u8]) -> S>(
+    line: &mut Line,
+    sum: F,
+    start: S,
+    first: &[u8],
+    second: &[u8],
+) -> Said
+    requires { F.IsAlwaysCallable sum }
+{
+    let after_first = sum(start, first);
+    let after_both = sum(after_first, second);
+    line.numbers(&[0, after_first.into(), after_both.into()])
 }
 
 // Act 63: a byte as a sum, as a number and as a character.
-fn of_a_byte(to: Stdout, b: u8) -> bool {
-    say::numbers(
-        to,
-        &[0, lrc(b) as u64, digit(b as u64) as u64, digit_of(b) as u64],
-    )
+fn of_a_byte(line: &mut Line, b: u8) -> Said {
+    line.numbers(&[0, lrc(b) as u64, digit(b as u64) as u64, digit_of(b) as u64])
 }
 
-// Act 70: as act 9, of the CRC-32.
-fn crc32_stretches(to: Stdout, start: u32, first: &[u8], second: &[u8]) -> bool {
-    let c = crc32_from(start, first);
-    say::numbers(to, &[0, c as u64, crc32_from(c, second) as u64])
-}
-
-pub fn answer(to: Stdout, act: u8, numbers: &[u8], bytes: &[u8], second: &[u8]) -> bool {
-    match act {
-        1 => say::numbers(
-            to,
-            &[0, checksum_from(wire::le16_at(numbers, 0), bytes) as u64],
-        ),
-        2 => say::numbers(to, &[0, checksum(bytes) as u64]),
-        3 => say::numbers(to, &[0, is_date(date_at(bytes, 0)) as u64]),
-        9 => stretches(to, wire::le16_at(numbers, 0), bytes, second),
-        61 => say::numbers(
-            to,
-            &[0, sum_byte(byte_at(numbers, 0), byte_at(numbers, 8)) as u64],
-        ),
-        62 => sum_stretches(to, byte_at(numbers, 0), bytes, second),
-        70 => crc32_stretches(to, wire::le32_at(numbers, 0), bytes, second),
-        _ => of_a_byte(to, byte_at(numbers, 0)),
+pub fn answer(line: &mut Line, case: Case, second: &[u8]) -> Said {
+    let bytes = case.bytes;
+    match case.act {
+        1 => line.numbers(&[0, checksum_from(case.short(0), bytes) as u64]),
+        2 => line.numbers(&[0, checksum(bytes) as u64]),
+        3 => line.numbers(&[0, is_date(date_at(bytes, 0)) as u64]),
+        9 => stretches(line, checksum_from, case.short(0), bytes, second),
+        61 => line.numbers(&[0, sum_byte(case.byte(0), case.byte(1)) as u64]),
+        62 => stretches(line, sum_from, case.byte(0), bytes, second),
+        70 => stretches(line, crc32_from, case.word(0), bytes, second),
+        _ => of_a_byte(line, case.byte(0)),
     }
 }

@@ -1,9 +1,10 @@
 // Answers each case of standard input with a line. tests/reference/CASES.md says how a case and a line are written.
 #![tactic(auto)]
 
-ghost use Rattle.std.specs.Prelude.{◌≤◌, length};
+ghost use Rattle.std.specs.Prelude.{◌≤◌};
 
 mod cards;
+mod case;
 mod clocks;
 mod collector;
 mod datagrams;
@@ -22,135 +23,127 @@ mod say;
 mod summaries;
 mod tables;
 
-use std::io::{Read, Stdin, Stdout};
-use wire::{byte_at, front, le16_at, le64_at, rest};
+use case::Case;
+use say::{Line, Said, Stop};
+use std::io;
+use std::io::{ErrorKind, Read, Stdin, Stdout, Write};
+use wire::{byte_at, front, le16_at, rest};
 
-// A number that counts bytes, places or the like.
-fn size_at(numbers: &[u8], at: usize) -> usize {
-    le64_at(numbers, at) as usize
-}
-
-fn pulsar(to: Stdout, act: u8, numbers: &[u8], bytes: &[u8], out: &mut [u8]) -> bool {
-    match act {
-        10..=13 => frames::answer(to, act, numbers, bytes, out),
-        14..=15 => collector::answer(to, act, numbers, bytes),
-        20 | 22 => requests::answer(to, act, numbers, bytes, out),
-        21 | 23 => replies::answer(to, act, numbers, bytes, out),
-        24 => summaries::answer(to, numbers, bytes),
-        _ => say::unknown(to, act),
+fn pulsar(line: &mut Line, case: Case, out: &mut [u8]) -> Said {
+    // By the act's number, as the case has it: a table of functions would say no more.
+    match case.act {
+        10..=13 => frames::answer(line, case, out),
+        14..=15 => collector::answer(line, case),
+        20 | 22 => requests::answer(line, case, out),
+        21 | 23 => replies::answer(line, case, out),
+        24 => summaries::answer(line, case),
+        _ => Err(Stop::UnknownAct),
     }
 }
 
-fn controller(to: Stdout, act: u8, numbers: &[u8], bytes: &[u8], out: &mut [u8]) -> bool {
-    match act {
-        30..=35 => envelope::answer(to, act, numbers, bytes, out),
-        40..=42 => files::answer(to, act, numbers, bytes, out),
-        43..=44 => receiver::answer(to, act, numbers, bytes, out),
-        _ => say::unknown(to, act),
+fn controller(line: &mut Line, case: Case, out: &mut [u8]) -> Said {
+    match case.act {
+        30..=35 => envelope::answer(line, case, out),
+        40..=42 => files::answer(line, case, out),
+        43..=44 => receiver::answer(line, case, out),
+        _ => Err(Stop::UnknownAct),
     }
 }
 
-// Answers a case: an act, its numbers of eight bytes each, and its byte strings.
-fn answer(to: Stdout, act: u8, numbers: &[u8], bytes: &[u8], out: &mut [u8]) -> bool {
-    match act {
-        1..=3 | 9 | 61..=63 | 70 => ground::answer(to, act, numbers, bytes, out),
-        4..=8 => readings::answer(to, act, numbers, bytes),
-        10..=24 => pulsar(to, act, numbers, bytes, out),
-        30..=44 => controller(to, act, numbers, bytes, out),
-        50..=51 | 53..=56 | 59 => cards::answer(to, act, numbers, bytes, out),
-        52 | 57..=58 => listings::answer(to, act, numbers, bytes, out),
-        60 => clocks::answer(to, numbers),
-        71..=80 => datagrams::answer(to, act, numbers, bytes, out),
-        81..=87 => tables::answer(to, act, numbers, bytes, out),
-        90..=97 => file_records::answer(to, act, numbers, bytes, out),
-        98..=99 => exchanges::answer(to, act, numbers, bytes, out),
-        _ => say::unknown(to, act),
+fn answer(line: &mut Line, case: Case, out: &mut [u8]) -> Said {
+    match case.act {
+        1..=3 | 9 | 61..=63 | 70 => ground::answer(line, case, out),
+        4..=8 => readings::answer(line, case),
+        10..=24 => pulsar(line, case, out),
+        30..=44 => controller(line, case, out),
+        50..=51 | 53..=56 | 59 => cards::answer(line, case, out),
+        52 | 57..=58 => listings::answer(line, case, out),
+        60 => clocks::answer(line, case),
+        71..=80 => datagrams::answer(line, case, out),
+        81..=87 => tables::answer(line, case, out),
+        90..=97 => file_records::answer(line, case, out),
+        98..=99 => exchanges::answer(line, case, out),
+        _ => Err(Stop::UnknownAct),
     }
 }
 
-// Reads until the buffer is full, the input ends or a read fails. Answers how many bytes came.
-fn read_full(from: Stdin, buffer: &mut [u8]) -> usize
-    ensures { result ≤ length buffer.new }
+// A case's line, or what is wrong with the case.
+fn tell(mut to: Stdout, case: Case, out: &mut [u8]) -> io::Result<()> {
+    let mut line = Line::new();
+    match answer(&mut line, case, out).or_else(|stop| line.stopped(stop)) {
+        Ok(()) => to.write_all(line.text()),
+        Err(Stop::UnknownAct) => writeln!(to, "unknown act {}", case.act),
+        Err(Stop::NoBuffer) => Err(ErrorKind::InvalidInput.into()),
+        Err(_) => to.write_all(b"line too long\n"),
+    }
+}
+
+// The first n bytes of a buffer, as they come in.
+fn filled<'a>(mut from: Stdin, buffer: &'a mut [u8], n: usize) -> io::Result<&'a mut [u8]> {
+    let m = n.min(buffer.len());
+    let part = &mut buffer[..m];
+    from.read_exact(part)?;
+    Ok(part)
+}
+
+// A case of whose head so many bytes have come, and the byte string that its call may change.
+fn read_case<'a>(
+    mut from: Stdin,
+    mut head: [u8; 6],
+    came: usize,
+    given: &'a mut [u8],
+    out: &'a mut [u8],
+) -> io::Result<(Case<'a>, &'a mut [u8])>
+    requires { came ≤ 6 }
 {
-    let mut input = from;
-    let mut n = 0;
-    while n < buffer.len() {
-        match input.read(&mut buffer[n..]) {
-            Ok(more) => {
-                if more == 0 {
-                    break;
-                }
-                n += more;
-            }
-            Err(_) => break,
+    from.read_exact(&mut head[came..])?;
+    let n = 8 * byte_at(&head, 1) as usize;
+    let m = n + le16_at(&head, 2) as usize;
+    let given = filled(from, given, m)?;
+    let out = filled(from, out, le16_at(&head, 4) as usize)?;
+    let case = Case {
+        act: byte_at(&head, 0),
+        numbers: front(given, n),
+        bytes: rest(given, n),
+    };
+    Ok((case, out))
+}
+
+// Reads one case and answers it. False where there is no next one.
+fn answer_one(
+    mut from: Stdin,
+    mut to: Stdout,
+    given: &mut [u8],
+    out: &mut [u8],
+) -> io::Result<bool> {
+    let mut head = [0u8; 6];
+    let came = from.read(&mut head)?;
+    if came == 0 {
+        return Ok(false);
+    }
+    match read_case(from, head, came, given, out) {
+        Ok((case, out)) => {
+            tell(to, case, out)?;
+            Ok(true)
+        }
+        Err(_) => {
+            to.write_all(b"case cut short\n")?;
+            Ok(false)
         }
     }
-    n
-}
-
-// Fills the first n bytes of a buffer, and answers whether they all came.
-fn read_part(from: Stdin, buffer: &mut [u8], n: usize) -> bool {
-    if n <= buffer.len() {
-        read_full(from, &mut buffer[..n]) == n
-    } else {
-        false
-    }
-}
-
-// Answers a case whose second byte string, which its call may change, is the first n bytes of a buffer.
-fn answer_into(
-    to: Stdout,
-    act: u8,
-    numbers: &[u8],
-    bytes: &[u8],
-    buffer: &mut [u8],
-    n: usize,
-) -> bool {
-    if n <= buffer.len() {
-        answer(to, act, numbers, bytes, &mut buffer[..n])
-    } else {
-        false
-    }
-}
-
-// Reads one case and answers it. False where the input has ended.
-fn answer_one(from: Stdin, to: Stdout, given: &mut [u8], out: &mut [u8]) -> bool {
-    let mut head = [0u8; 6];
-    let came = read_full(from, &mut head);
-    if came == 0 {
-        return false;
-    }
-    let n = byte_at(&head, 1) as usize * 8;
-    let m = n + le16_at(&head, 2) as usize;
-    let k = le16_at(&head, 4) as usize;
-    if came < 6 {
-        return say::cut_short(to);
-    }
-    if !read_part(from, given, m) {
-        return say::cut_short(to);
-    }
-    if !read_part(from, out, k) {
-        return say::cut_short(to);
-    }
-    answer_into(
-        to,
-        byte_at(&head, 0),
-        front(given, n),
-        rest(front(given, m), n),
-        out,
-        k,
-    )
 }
 
 // There is room for 255 numbers and for byte strings of any length that a case can say. A proved loop has to end, and nothing says that the
-// input does. So the loop counts its turns down from a number that no run uses up.
+// input does: there are more turns than a run uses up.
 fn main(rt: HostRuntime) {
     let from = rt.stdin();
     let to = rt.stdout();
     let mut given = [0u8; 67575];
     let mut out = [0u8; 65535];
-    let mut turns = u64::MAX;
-    while turns > 0 && answer_one(from, to, &mut given, &mut out) {
-        turns -= 1;
+    for _ in 0..u64::MAX {
+        match answer_one(from, to, &mut given, &mut out) {
+            Ok(true) => {}
+            _ => break,
+        }
     }
 }

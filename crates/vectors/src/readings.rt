@@ -1,74 +1,40 @@
 // Acts 4 to 8: values by place, readings, the first absent value, channels, sameness.
-use crate::{say, size_at};
+use crate::case::Case;
+use crate::say::{Line, Said};
 use reading::mask::{channel_count, channel_of};
-use reading::values::{FirstAbsent, first_absent, value_at};
-use reading::{Reading, ValueRead, is_same, kind_from, of_bits, read_value};
-use std::io::Stdout;
-use wire::{byte_at, le32_at, le64_at};
+use reading::values::{first_absent, value_at};
+use reading::{Reading, bits, is_absent, is_same, kind_from, kind_of, of_bits, read_value};
 
 // Kind, bits and whether they are absent.
-fn value(to: Stdout, v: ValueRead) -> bool {
-    match v {
-        ValueRead::Value(r) => {
-            let kind = reading::number_of(reading::kind_of(r));
-            say::numbers(
-                to,
-                &[
-                    0,
-                    kind as u64,
-                    reading::bits(r),
-                    reading::is_absent(r) as u64,
-                ],
-            )
-        }
-        ValueRead::Refused(n) => say::refused(to, n),
-    }
+fn value(line: &mut Line, r: Reading) -> Said {
+    let kind = u8::from(kind_of(r));
+    line.numbers(&[0, kind as u64, bits(r), is_absent(r) as u64])
 }
 
-fn absent(to: Stdout, f: FirstAbsent) -> bool {
-    match f {
-        FirstAbsent::At(place) => say::numbers(to, &[0, place as u64]),
-        FirstAbsent::Nothing => say::numbers(to, &[0, 0]),
-        FirstAbsent::Refused(n) => say::refused(to, n),
-    }
+// Readings that are given as their kinds and their bits.
+fn same(line: &mut Line, case: Case) -> Said {
+    let a = of_bits(kind_from(case.byte(0)), case.long(1));
+    let b = of_bits(kind_from(case.byte(2)), case.long(3));
+    line.numbers(&[0, is_same(a, b) as u64])
 }
 
-fn channel(to: Stdout, mask: u32, place: usize) -> bool {
-    say::numbers(
-        to,
-        &[
-            0,
-            channel_of(mask, place) as u64,
-            channel_count(mask) as u64,
-        ],
-    )
-}
-
-// A reading that is given as its kind and its bits.
-fn reading_from(numbers: &[u8], at: usize) -> Reading {
-    of_bits(
-        kind_from(byte_at(numbers, at)),
-        le64_at(wire::rest(numbers, at), 8),
-    )
-}
-
-fn same(to: Stdout, numbers: &[u8]) -> bool {
-    let s = is_same(reading_from(numbers, 0), reading_from(numbers, 16));
-    say::numbers(to, &[0, s as u64])
-}
-
-pub fn answer(to: Stdout, act: u8, numbers: &[u8], bytes: &[u8]) -> bool {
-    match act {
+pub fn answer(line: &mut Line, case: Case) -> Said {
+    let bytes = case.bytes;
+    match case.act {
         4 => {
-            let kind = kind_from(byte_at(numbers, 8));
-            value(
-                to,
-                value_at(size_at(numbers, 0), kind, bytes, size_at(numbers, 16)),
-            )
+            let kind = kind_from(case.byte(1));
+            value(line, value_at(case.size(0), kind, bytes, case.size(2))?)
         }
-        5 => value(to, read_value(kind_from(byte_at(numbers, 0)), bytes)),
-        6 => absent(to, first_absent(size_at(numbers, 0), bytes)),
-        7 => channel(to, le32_at(numbers, 0), size_at(numbers, 8)),
-        _ => same(to, numbers),
+        5 => value(line, read_value(kind_from(case.byte(0)), bytes)?),
+        6 => {
+            let place = first_absent(case.size(0), bytes)?.unwrap_or(0);
+            line.numbers(&[0, place as u64])
+        }
+        7 => {
+            let mask = case.word(0);
+            let channel = channel_of(mask, case.size(1));
+            line.numbers(&[0, channel as u64, channel_count(mask) as u64])
+        }
+        _ => same(line, case),
     }
 }

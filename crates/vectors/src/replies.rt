@@ -1,66 +1,29 @@
 // Acts 21 and 23: reply bodies.
-use crate::{say, size_at};
-use date::{DateTime, date_at, is_no_date};
-use pulsar_reply::{ArchiveReply, Reply, ReplyRead};
-use std::io::Stdout;
-use wire::{byte_at, le32_at};
+use crate::case::Case;
+use crate::say::{Line, Said};
+use date::{DateTime, is_no_date};
+use pulsar_reply::{
+    ArchiveReply, Reply, read_reply, reply_function, reply_values, write_reply_body,
+};
 
-fn clock(to: Stdout, function: u64, d: DateTime) -> bool {
-    let words = [
-        0,
-        function,
-        1,
-        d.year as u64,
-        d.month as u64,
-        d.day as u64,
-        d.hour as u64,
-        d.minute as u64,
-        d.second as u64,
-    ];
-    say::numbers(to, &words)
-}
-
-fn archive(to: Stdout, function: u64, a: ArchiveReply, values: &[u8]) -> bool {
-    let f = a.first;
-    let words = [
-        0,
-        function,
-        a.mask as u64,
-        f.year as u64,
-        f.month as u64,
-        f.day as u64,
-        f.hour as u64,
-        f.minute as u64,
-        f.second as u64,
-    ];
-    say::line(to, &words, values)
-}
-
-fn reply(to: Stdout, r: Reply, values: &[u8]) -> bool {
-    let function = pulsar_reply::reply_function(r) as u64;
+fn reply(line: &mut Line, r: Reply, values: &[u8]) -> Said {
+    line.words(&[0, reply_function(r) as u64])?;
     match r {
-        Reply::Error(error) => say::line(to, &[0, function, error as u64], values),
-        Reply::Channels => say::line(to, &[0, function], values),
-        Reply::ChannelsWritten(mask) => say::line(to, &[0, function, mask as u64], values),
-        Reply::Clock(d) => clock(to, function, d),
-        Reply::NoClock => say::line(to, &[0, function, 0], b""),
-        Reply::ClockSet(status) => say::line(to, &[0, function, status as u64], b""),
-        Reply::Archive(a) => archive(to, function, a, values),
-        Reply::Parameter => say::line(to, &[0, function], values),
-        Reply::ParameterWritten => say::line(to, &[0, function], b""),
+        Reply::Error(number) => line.words(&[number as u64])?,
+        Reply::Channels | Reply::Parameter | Reply::ParameterWritten => {}
+        Reply::ChannelsWritten(mask) => line.words(&[mask as u64])?,
+        Reply::Clock(d) => {
+            line.words(&[1])?;
+            line.date(d)?;
+        }
+        Reply::NoClock => line.words(&[0])?,
+        Reply::ClockSet(status) => line.words(&[status as u64])?,
+        Reply::Archive(a) => {
+            line.words(&[a.mask as u64])?;
+            line.date(a.first)?;
+        }
     }
-}
-
-fn read(to: Stdout, numbers: &[u8], body: &[u8]) -> bool {
-    match pulsar_reply::read_reply(
-        byte_at(numbers, 0),
-        size_at(numbers, 8),
-        le32_at(numbers, 16),
-        body,
-    ) {
-        ReplyRead::Reply(r) => reply(to, r, pulsar_reply::reply_values(r, body)),
-        ReplyRead::Refused(n) => say::refused(to, n),
-    }
+    line.bytes(values)
 }
 
 fn clock_from(d: DateTime) -> Reply {
@@ -71,32 +34,30 @@ fn clock_from(d: DateTime) -> Reply {
     }
 }
 
-fn archive_from(numbers: &[u8]) -> Reply {
-    Reply::Archive(ArchiveReply {
-        mask: le32_at(numbers, 16),
-        first: date_at(numbers, 40),
-    })
-}
-
-fn reply_from(numbers: &[u8]) -> Reply {
-    match byte_at(numbers, 0) {
-        0x00 => Reply::Error(byte_at(numbers, 32)),
+fn reply_from(case: Case) -> Reply {
+    match case.byte(0) {
+        0x00 => Reply::Error(case.byte(4)),
         0x01 => Reply::Channels,
-        0x02 => Reply::ChannelsWritten(le32_at(numbers, 16)),
-        0x04 => clock_from(date_at(numbers, 40)),
-        0x05 => Reply::ClockSet(byte_at(numbers, 24)),
-        0x06 => archive_from(numbers),
+        0x02 => Reply::ChannelsWritten(case.word(2)),
+        0x04 => clock_from(case.date(5)),
+        0x05 => Reply::ClockSet(case.byte(3)),
+        0x06 => Reply::Archive(ArchiveReply {
+            mask: case.word(2),
+            first: case.date(5),
+        }),
         0x0A => Reply::Parameter,
         _ => Reply::ParameterWritten,
     }
 }
 
-pub fn answer(to: Stdout, act: u8, numbers: &[u8], bytes: &[u8], out: &mut [u8]) -> bool {
-    if act == 21 {
-        return read(to, numbers, bytes);
+pub fn answer(line: &mut Line, case: Case, out: &mut [u8]) -> Said {
+    let width = case.size(1);
+    let mask = case.word(2);
+    let bytes = case.bytes;
+    if case.act == 21 {
+        let r = read_reply(case.byte(0), width, mask, bytes)?;
+        return reply(line, r, reply_values(r, bytes));
     }
-    let width = size_at(numbers, 8);
-    let mask = le32_at(numbers, 16);
-    let w = pulsar_reply::write_reply_body(reply_from(numbers), width, mask, bytes, out);
-    say::written(to, w, out)
+    let w = write_reply_body(reply_from(case), width, mask, bytes, out);
+    line.written(w, out)
 }

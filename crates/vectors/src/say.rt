@@ -1,101 +1,140 @@
-// An answer's line: numbers in decimal, then a byte string in hexadecimal; or what is wrong with the case. The answer is false where a write fails.
-use std::io::Stdout;
-use wire::{Written, digit};
+// The line that answers a case: numbers in decimal, then a byte string in hexadecimal. Each room's `answer` takes the line, the case and an
+// output, which are three buffers: one is filled, one read, and one lent to the core's writers.
+use date::DateTime;
+use std::io;
+use std::io::{Cursor, Write};
+use wire::{Refusal, Written, digit};
 
-// The length of a line that did not fit.
-const TOO_LONG: usize = usize::MAX;
-
-// Whether the bytes were written.
-fn put(to: Stdout, bytes: &[u8]) -> bool {
-    to.write_all(bytes).is_ok()
+// Why an act says no more.
+#[derive(Clone, Copy, Debug, PartialEq, Eq)]
+pub enum Stop {
+    Refused(Refusal),
+    // The refusal and a number that is told with it.
+    RefusedWith(Refusal, usize),
+    UnknownAct,
+    TooLong,
+    // No buffer is as long as the case asks for, and no line answers it.
+    NoBuffer,
 }
 
-fn number(to: Stdout, n: u64) -> bool {
-    let mut digits = [0u8; 20];
-    let k = io::decimal(n, &mut digits);
-    put(to, &digits[..k])
+pub type Said = Result<(), Stop>;
+
+impl From<Refusal> for Stop {
+    fn from(refusal: Refusal) -> Stop {
+        Stop::Refused(refusal)
+    }
 }
 
-// Adds a text to the first `at` bytes of a line. Answers how long the line is then.
-fn text(line: &mut [u8], at: usize, t: &[u8]) -> usize {
-    if at <= line.len() {
-        if t.len() <= line.len() - at {
-            wire::put_all(line, at, t);
-            return at + t.len();
+// A frame that is on its way lacks so many bytes.
+impl From<pulsar_frame::Fault> for Stop {
+    fn from(fault: pulsar_frame::Fault) -> Stop {
+        match fault {
+            pulsar_frame::Fault::Missing(lack) => Stop::RefusedWith(Refusal::OnItsWay, lack),
+            pulsar_frame::Fault::Refused(refusal) => Stop::Refused(refusal),
         }
     }
-    TOO_LONG
 }
 
-// Numbers, each with a blank after it.
-fn decimal(line: &mut [u8], words: &[u64]) -> usize {
-    let mut n = 0;
-    let mut i = 0;
-    while i < words.len() {
-        let mut digits = [0u8; 20];
-        let k = io::decimal(words[i], &mut digits);
-        n = text(line, n, &digits[..k]);
-        n = text(line, n, b" ");
-        i += 1;
-    }
-    n
-}
-
-// The two digits of a byte.
-fn digits_of(b: u8) -> [u8; 2] {
-    [digit((b / 16) as u64), digit((b % 16) as u64)]
-}
-
-// A byte string, - where it is empty.
-fn hexadecimal(line: &mut [u8], at: usize, s: &[u8]) -> usize {
-    if s.len() == 0 {
-        return text(line, at, b"-");
-    }
-    let mut n = at;
-    let mut i = 0;
-    while i < s.len() {
-        let pair = digits_of(s[i]);
-        n = text(line, n, &pair);
-        i += 1;
-    }
-    n
-}
-
-pub fn line(to: Stdout, words: &[u64], bytes: &[u8]) -> bool {
-    let mut line = io::buffer();
-    let n = decimal(&mut line, words);
-    let m = hexadecimal(&mut line, n, bytes);
-    let k = text(&mut line, m, b"\n");
-    if k == TOO_LONG {
-        return put(to, b"line too long\n");
-    }
-    put(to, wire::front(&line, k))
-}
-
-// Numbers alone.
-pub fn numbers(to: Stdout, words: &[u64]) -> bool {
-    line(to, words, b"")
-}
-
-// The paper's number alone.
-pub fn refused(to: Stdout, n: u8) -> bool {
-    line(to, &[n as u64], b"")
-}
-
-// A writer's answer, and the whole of its output.
-pub fn written(to: Stdout, w: Written, out: &[u8]) -> bool {
-    match w {
-        Written::Length(n) => line(to, &[0, n as u64], out),
-        Written::Refused(n) => line(to, &[n as u64], out),
+impl From<consumption::Fault> for Stop {
+    fn from(fault: consumption::Fault) -> Stop {
+        match fault {
+            consumption::Fault::Refused(refusal) => Stop::Refused(refusal),
+            consumption::Fault::RefusedAt(refusal, place) => Stop::RefusedWith(refusal, place),
+        }
     }
 }
 
-pub fn unknown(to: Stdout, act: u8) -> bool {
-    put(to, b"unknown act ") && number(to, act as u64) && put(to, b"\n")
+// A line takes all that it has room for.
+impl From<io::Error> for Stop {
+    fn from(_error: io::Error) -> Stop {
+        Stop::TooLong
+    }
 }
 
-// The input ended within a case, so there is no next one.
-pub fn cut_short(to: Stdout) -> bool {
-    put(to, b"case cut short\n");
-    false
+#[derive(Drop)]
+pub struct Line {
+    text: Cursor<[u8; 4096]>,
+}
+
+impl Line {
+    pub fn new() -> Line {
+        Line {
+            text: Cursor::new([0; 4096]),
+        }
+    }
+
+    // What was said so far.
+    pub fn text(&self) -> &[u8] {
+        wire::front(self.text.get_ref(), self.text.position() as usize)
+    }
+
+    // Numbers, each with a blank after it.
+    pub fn words(&mut self, words: &[u64]) -> Said {
+        for word in words {
+            write!(self.text, "{word} ")?;
+        }
+        Ok(())
+    }
+
+    pub fn date(&mut self, d: DateTime) -> Said {
+        self.words(&[
+            d.year as u64,
+            d.month as u64,
+            d.day as u64,
+            d.hour as u64,
+            d.minute as u64,
+            d.second as u64,
+        ])
+    }
+
+    // The two digits of each byte, by the core's own digit: by a format they took the whole run nearly twice as long.
+    pub fn hexadecimal(&mut self, bytes: &[u8]) -> Said {
+        for b in bytes {
+            let digits = [digit((*b / 16) as u64), digit((*b % 16) as u64)];
+            self.text.write_all(&digits)?;
+        }
+        Ok(())
+    }
+
+    pub fn end(&mut self) -> Said {
+        writeln!(self.text)?;
+        Ok(())
+    }
+
+    // The byte string, - where it is empty, and the end.
+    pub fn bytes(&mut self, bytes: &[u8]) -> Said {
+        if bytes.is_empty() {
+            write!(self.text, "-")?;
+        }
+        self.hexadecimal(bytes)?;
+        self.end()
+    }
+
+    pub fn say(&mut self, words: &[u64], bytes: &[u8]) -> Said {
+        self.words(words)?;
+        self.bytes(bytes)
+    }
+
+    // Numbers alone.
+    pub fn numbers(&mut self, words: &[u64]) -> Said {
+        self.say(words, b"")
+    }
+
+    // Why an act says no more, in place of what it said so far, where a line can tell it.
+    pub fn stopped(&mut self, stop: Stop) -> Said {
+        self.text.set_position(0);
+        match stop {
+            Stop::Refused(refusal) => self.numbers(&[refusal.number() as u64]),
+            Stop::RefusedWith(refusal, n) => self.numbers(&[refusal.number() as u64, n as u64]),
+            _ => Err(stop),
+        }
+    }
+
+    // A writer's answer, and the whole of its output.
+    pub fn written(&mut self, w: Written, out: &[u8]) -> Said {
+        match w {
+            Ok(n) => self.say(&[0, n as u64], out),
+            Err(refusal) => self.say(&[refusal.number() as u64], out),
+        }
+    }
 }

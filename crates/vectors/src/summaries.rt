@@ -1,137 +1,99 @@
 // Act 24: the summary of an archive reply's present values. Floats are told by their bits.
-ghost use Rattle.consumption.specs.Numbers.{AllNumbers};
+ghost use Rattle.std.specs.Prelude.{ℕ, ◌<◌, length, get_or, ⊤};
+ghost use Rattle.consumption.specs.Numbers.{Number};
 
-use crate::say;
-use consumption::{Answer, SummaryF32, SummaryF64, SummaryU32, SummaryU64};
+use crate::case::Case;
+use crate::say::{Line, Said};
+use consumption::{Summary, read_f32, read_f64, read_u32, read_u64};
 use reading::{Kind, kind_from};
-use std::io::Stdout;
-use wire::byte_at;
+use wire::front;
 
-fn bits32(s: SummaryF32) -> SummaryU32
-    requires { AllNumbers 57 s.first s.last s.steps }
+// A value that is told by its bits: which are, how many bytes they fill, and they.
+trait Told: Copy {
+    ghost IsTold: { Self → Type 0 };
+
+    const WIDTH: usize;
+
+    fn bits(self) -> u64
+        requires { IsTold self };
+}
+
+impl Told for f32 {
+    ghost IsTold = { Number };
+
+    const WIDTH: usize = 4;
+
+    fn bits(self) -> u64 {
+        u64::from(self.to_bits())
+    }
+}
+
+impl Told for f64 {
+    ghost IsTold = { Number };
+
+    const WIDTH: usize = 8;
+
+    fn bits(self) -> u64 {
+        self.to_bits()
+    }
+}
+
+impl Told for u32 {
+    ghost IsTold = { λ _. ⊤ };
+
+    const WIDTH: usize = 4;
+
+    fn bits(self) -> u64 {
+        self as u64
+    }
+}
+
+impl Told for u64 {
+    ghost IsTold = { λ _. ⊤ };
+
+    const WIDTH: usize = 8;
+
+    fn bits(self) -> u64 {
+        self
+    }
+}
+
+fn tell<V: Told, S>(line: &mut Line, s: &Summary<V, S>, steps: &[V]) -> Said
+    requires ends { V.IsTold s.now.first × V.IsTold s.now.last }
+    requires each { (i : ℕ) → i < length steps.now → V.IsTold (get_or steps.now i s.now.first) }
 {
-    let mut steps = [0u32; 57];
-    let mut i = 0;
-    while i < 57 {
-        steps[i] = f32::to_bits(s.steps[i]);
-        i += 1;
+    line.words(&[
+        0,
+        s.first.bits(),
+        s.first_place as u64,
+        s.last.bits(),
+        s.last_place as u64,
+        s.present as u64,
+    ])?;
+    for step in steps {
+        line.hexadecimal(front(&step.bits().to_le_bytes(), V::WIDTH))?;
     }
-    SummaryU32 {
-        first: f32::to_bits(s.first),
-        first_place: s.first_place,
-        last: f32::to_bits(s.last),
-        last_place: s.last_place,
-        present: s.present,
-        steps,
-    }
+    line.end()
 }
 
-fn bits64(s: SummaryF64) -> SummaryU64
-    requires { AllNumbers 28 s.first s.last s.steps }
-{
-    let mut steps = [0u64; 28];
-    let mut i = 0;
-    while i < 28 {
-        steps[i] = f64::to_bits(s.steps[i]);
-        i += 1;
-    }
-    SummaryU64 {
-        first: f64::to_bits(s.first),
-        first_place: s.first_place,
-        last: f64::to_bits(s.last),
-        last_place: s.last_place,
-        present: s.present,
-        steps,
-    }
-}
-
-fn summary32(to: Stdout, s: SummaryU32) -> bool {
-    let mut steps = [0u8; 228];
-    let mut i = 0;
-    while i < 57 {
-        wire::put_le32(&mut steps, 4 * i, s.steps[i]);
-        i += 1;
-    }
-    say::line(
-        to,
-        &[
-            0,
-            s.first as u64,
-            s.first_place as u64,
-            s.last as u64,
-            s.last_place as u64,
-            s.present as u64,
-        ],
-        &steps,
-    )
-}
-
-fn summary64(to: Stdout, s: SummaryU64) -> bool {
-    let mut steps = [0u8; 224];
-    let mut i = 0;
-    while i < 28 {
-        wire::put_le64(&mut steps, 8 * i, s.steps[i]);
-        i += 1;
-    }
-    say::line(
-        to,
-        &[
-            0,
-            s.first,
-            s.first_place as u64,
-            s.last,
-            s.last_place as u64,
-            s.present as u64,
-        ],
-        &steps,
-    )
-}
-
-fn told32(to: Stdout, answer: Answer, s: SummaryU32) -> bool {
-    match answer {
-        Answer::Summary => summary32(to, s),
-        Answer::Refused(n) => say::refused(to, n),
-        Answer::RefusedAt(n, place) => say::numbers(to, &[n as u64, place as u64]),
-    }
-}
-
-fn told64(to: Stdout, answer: Answer, s: SummaryU64) -> bool {
-    match answer {
-        Answer::Summary => summary64(to, s),
-        Answer::Refused(n) => say::refused(to, n),
-        Answer::RefusedAt(n, place) => say::numbers(to, &[n as u64, place as u64]),
-    }
-}
-
-fn f32_told(to: Stdout, body: &[u8]) -> bool {
-    let c = consumption::read_f32(body);
-    let answer = c.answer;
-    told32(to, answer, bits32(c.summary))
-}
-
-fn f64_told(to: Stdout, body: &[u8]) -> bool {
-    let c = consumption::read_f64(body);
-    let answer = c.answer;
-    told64(to, answer, bits64(c.summary))
-}
-
-fn u32_told(to: Stdout, body: &[u8]) -> bool {
-    let c = consumption::read_u32(body);
-    let answer = c.answer;
-    told32(to, answer, c.summary)
-}
-
-fn u64_told(to: Stdout, body: &[u8]) -> bool {
-    let c = consumption::read_u64(body);
-    let answer = c.answer;
-    told64(to, answer, c.summary)
-}
-
-pub fn answer(to: Stdout, numbers: &[u8], body: &[u8]) -> bool {
-    match kind_from(byte_at(numbers, 0)) {
-        Kind::F32 => f32_told(to, body),
-        Kind::F64 => f64_told(to, body),
-        Kind::U32 => u32_told(to, body),
-        Kind::U64 => u64_told(to, body),
+pub fn answer(line: &mut Line, case: Case) -> Said {
+    let body = case.bytes;
+    match kind_from(case.byte(0)) {
+        Kind::F32 => {
+            let s = read_f32(body)?;
+            tell(line, &s, &s.steps)
+        }
+        Kind::F64 => {
+            let s = read_f64(body)?;
+            tell(line, &s, &s.steps)
+        }
+        Kind::U32 => {
+            let s = read_u32(body)?;
+            tell(line, &s, &s.steps)
+        }
+        Kind::U64 => {
+            let s = read_u64(body)?;
+            tell(line, &s, &s.steps)
+        }
     }
 }

@@ -8,7 +8,7 @@ use lib.Dec.{T}
 use Rattle.wire.specs.Refusal.{Rule, first, numbered}
 use Rattle.wire.specs.Answer.{answered}
 use Rattle.wire.specs.InTurn.{in_turn, first_faulty, Faultless, FirstFault, FirstInTurn}
-use Rattle.wire.proofs.Refusal.{first_skips, first_hits, first_none, none_first, first_is, is_first, numbered_append, passed, found}
+use Rattle.wire.proofs.Rules.{first_skips, first_hits, first_none, none_first, first_is, is_first, numbered_append, passed, found}
 
 module _ {A : Type 0} (rules : A → List Rule) (good : (x : A) → T (numbered (rules x))) where
   pub in_turn_numbered : (xs : List A) → T (numbered (in_turn rules xs))

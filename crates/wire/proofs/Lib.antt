@@ -4,7 +4,8 @@ pub mod Numbers
 pub mod Fields
 pub mod Turns
 pub mod Writing
-pub mod Refusal
+pub mod Widths
+pub mod Rules
 pub mod InTurn
 pub mod Answer
 pub mod Writes

@@ -21,6 +21,8 @@ use Rattle.wire.proofs.put_be16.Reads as put-be16
 use Rattle.wire.proofs.put_bcd32.Reads as put-bcd32
 use Rattle.wire.proofs.digit.Reads as digit
 use Rattle.wire.proofs.digit_of.Reads as digit-of
+use Rattle.wire.proofs.refusals.Refusal.number.Reads as number
+use Rattle.wire.proofs.refusals.U8FromRefusal.from.Reads as from-refusal
 
 pub minus_unique : Unique minus.Post (λ κs r s. r)
 minus_unique κs a r r' s s' e e' = e ∙ sym e'
@@ -78,3 +80,9 @@ digit_unique κs a r r' s s' e e' = e ∙ sym e'
 
 pub digit_of_unique : Unique digit-of.Post (λ κs r s. r)
 digit_of_unique κs a r r' s s' e e' = e ∙ sym e'
+
+pub number_unique : Unique number.Post (λ κs r s. r)
+number_unique κs a r r' s s' e e' = e ∙ sym e'
+
+pub from_refusal_unique : Unique from-refusal.Post (λ κs r s. r)
+from_refusal_unique κs a r r' s s' e e' = e ∙ sym e'

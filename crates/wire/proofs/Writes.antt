@@ -9,25 +9,29 @@ use lib.ListN.{length, take, drop}
 use lib.Seq.{take-append_seam}
 use Rattle.wire.specs.Numbers.{over}
 use Rattle.wire.specs.Refusal.{Rule, first, numbered, FirstInOrder}
-use Rattle.wire.specs.Writes.{Writes, write_answer, write_output, told_written}
-use Rattle.wire.specs.declared.Written.{Written}
-use Rattle.wire.specs.declared.Written.TheVariants.{Length, Refused}
+use Rattle.std.specs.Prelude.{Result, Ok, Err}
+use Rattle.wire.specs.Answer.{refuse, judged}
+use Rattle.wire.specs.Numbered.{refusal}
+use Rattle.wire.specs.Writes.{Written, Writes, write_answer, write_output, told_written}
+use Rattle.wire.specs.declared.refusals.Refusal.{Refusal}
 use Rattle.wire.proofs.Answer.{answer_first}
 
 module _ (bs out : List ℕ) where
   -- a refusal k + 1, which is the first
-  pub writes_refused : (k n : ℕ) → suc k ≡ n → Writes n bs out (Refused (suc k)) out
-  writes_refused k n e = subst (λ (m : ℕ). Writes m bs out (Refused (suc k)) out) e (record { answer = refl; output = refl })
+  pub writes_refused : (k n : ℕ) (e : Refusal) → suc k ≡ n → e ≡ refusal (suc k) → Writes n bs out (Err e) out
+  writes_refused k n e en ee =
+      subst (λ (m : ℕ). Writes m bs out (Err e) out) en (record { answer = ap Err ee; output = refl })
 
-  -- as the code judges it: a number that is the first and not 0
-  pub writes_judged : (r n : ℕ) → r ≡ n → (r ≡ 0 → ⊥) → Writes n bs out (Refused r) out
-  writes_judged zero n e some = absurd (some refl)
-  writes_judged (suc k) n e some = writes_refused k n e
+  -- as the code judges it: r is what a judge answered of n, which was a refusal
+  pub writes_judged : {B : Type 0} (y : B) (r : Result B Refusal) (n : ℕ) (e : Refusal) → r ≡ judged y n → r ≡ Err e → Writes n bs out (Err e) out
+  writes_judged {B = B} y r zero e j is = absurd (let z : ◌≡◌ {A = Result B Refusal} (Ok y) (Err e) = sym j ∙ is in cc)
+  writes_judged {B = B} y r (suc n) e j is =
+      record { answer = let z : ◌≡◌ {A = Result B Refusal} (Err (refusal (suc n))) (Err e) = sym j ∙ is in cc; output = refl }
 
   -- none
-  pub writes_all : (n l : ℕ) (out' : List ℕ) → 0 ≡ n → l ≡ length bs → out' ≡ over out bs → Writes n bs out (Length l) out'
+  pub writes_all : (n l : ℕ) (out' : List ℕ) → 0 ≡ n → l ≡ length bs → out' ≡ over out bs → Writes n bs out (Ok l) out'
   writes_all n l out' e el eo =
-      subst (λ (m : ℕ). Writes m bs out (Length l) out') e (record { answer = ap Length el; output = eo })
+      subst (λ (m : ℕ). Writes m bs out (Ok l) out') e (record { answer = ap Ok el; output = eo })
 
   -- what a callee has shown of its own, later rules
   pub writes_as : (n m : ℕ) (r : Written) (out' : List ℕ) → n ≡ m → Writes n bs out r out' → Writes m bs out r out'
@@ -37,24 +41,24 @@ module _ (bs out : List ℕ) where
   writes_once n r r' o o' w w' = ap₂ (λ (x : Written) (y : List ℕ). (x, y)) (w.answer ∙ sym w'.answer) (w.output ∙ sym w'.output)
 
 -- an answered length says that nothing was refused, and what the output holds
-pub wrote : (n : ℕ) (bs out : List ℕ) (r : Written) (out' : List ℕ) (k : ℕ) → Writes n bs out r out' → r ≡ Length k → (n ≡ 0) × (k ≡ length bs) × (out' ≡ over out bs)
+pub wrote : (n : ℕ) (bs out : List ℕ) (r : Written) (out' : List ℕ) (k : ℕ) → Writes n bs out r out' → r ≡ Ok k → (n ≡ 0) × (k ≡ length bs) × (out' ≡ over out bs)
 wrote zero bs out r out' k w e =
-    let same : Length k ≡ Length (length bs) = sym e ∙ w.answer in
+    let same : Ok k ≡ Ok (length bs) = sym e ∙ w.answer in
     (refl, (cc), w.output)
 wrote (suc n) bs out r out' k w e =
-    let same : Length k ≡ Refused (suc n) = sym e ∙ w.answer in
+    let same : Ok k ≡ refuse (suc n) = sym e ∙ w.answer in
     let z : ◌≡◌ {A = ℕ} 0 1 = cc in
     absurd (omega arith)
 
 -- and then what stands in the first k bytes of the output is what was to be written
-pub wrote_front : (n : ℕ) (bs out : List ℕ) (r : Written) (out' : List ℕ) (k : ℕ) → Writes n bs out r out' → r ≡ Length k → (n ≡ 0) × (take k out' ≡ bs)
+pub wrote_front : (n : ℕ) (bs out : List ℕ) (r : Written) (out' : List ℕ) (k : ℕ) → Writes n bs out r out' → r ≡ Ok k → (n ≡ 0) × (take k out' ≡ bs)
 unfolding over
 wrote_front n bs out r out' k w e =
     let o = wrote n bs out r out' k w e in
     (o.0, ap₂ (λ (j : ℕ) (l : List ℕ). take j l) o.1 o.2 ∙ take-append_seam bs (drop (length bs) out))
 
 -- where nothing is refused, all of it is written
-pub wrote_all : (n : ℕ) (bs out : List ℕ) (r : Written) (out' : List ℕ) → Writes n bs out r out' → n ≡ 0 → (r ≡ Length (length bs)) × (out' ≡ over out bs)
+pub wrote_all : (n : ℕ) (bs out : List ℕ) (r : Written) (out' : List ℕ) → Writes n bs out r out' → n ≡ 0 → (r ≡ Ok (length bs)) × (out' ≡ over out bs)
 wrote_all n bs out r out' w z = (w.answer ∙ ap (λ (m : ℕ). write_answer m bs) z, w.output ∙ ap (λ (m : ℕ). write_output m bs out) z)
 
 -- demand 1 of the number that a writer tells
@@ -62,4 +66,4 @@ pub written_first : (rules : List Rule) (bs out : List ℕ) (r : Written) (out' 
     → FirstInOrder rules (told_written r).number
 written_first rules bs out r out' t w =
     subst (λ (x : Written). FirstInOrder rules (told_written x).number) (sym w.answer)
-    (answer_first Refused (Length (length bs)) (λ x. (told_written x).number) (λ n. refl) rules t refl)
+    (answer_first refuse (Ok (length bs)) (λ x. (told_written x).number) (λ n. refl) rules t refl)

@@ -1,7 +1,7 @@
 -- Runs of stores: `sets out at bs` is `out` with `bs` stored from `at` on. One run after another is one run.
 -- Assumes nothing.
-use mathlib.Core.Path.{◌≡◌, refl, sym, ap, ◌∙◌}
-use mathlib.Core.List.{List, [], ◌∷◌, ◌++◌}
+use mathlib.Core.Path.{◌≡◌, refl, sym, ap, ap₂, ◌∙◌}
+use mathlib.Core.List.{List, [], ◌∷◌, ◌++◌, append_assoc}
 use Prim.Native.Nat.{ℕ, zero, suc, ◌+◌, ◌-◌, ◌≤◌, ◌<◌}
 use native.Mathlib.Nat.{min-le_left, add-zero, add-suc, suc-add, zero-add}
 use native.Mathlib.Numerals.{add-one}
@@ -10,7 +10,8 @@ use mathlib.Core.Bool.{Bool, true, false}
 use lib.Dec.{ltb}
 use borrow.Author.Tests.{ltb-true, ltb-false}
 use lib.ListN.{length, take, drop, get_or, set, replicate, length-set, length-take}
-use lib.Seq.{sets, sets-eq, set_out, take-nil, take-suc, take_all, length-take-le, take-append_seam}
+use borrow.Rule.Slice.PartMut.{put_mid}
+use lib.Seq.{drop-drop, sets, sets-eq, set_out, take-nil, take-suc, take_all, length-take-le, take-append_seam}
 use Rattle.wire.specs.Numbers.{field, over}
 use Rattle.wire.proofs.Turns.{field_of_rest}
 
@@ -31,6 +32,15 @@ sets_more out at src i h =
 
 pub sets_all : (out : List ℕ) (at : ℕ) (src : List ℕ) (i : ℕ) → length src ≤ i → sets out at (take i src) ≡ sets out at src
 sets_all out at src i h = ap (sets out at) (take_all i src h)
+
+-- what the code stores at once, by a part of out that it lends: part, which has room
+pub put_part : (out : List ℕ) (at : ℕ) (part new : List ℕ) → new ≡ part → at + length part ≤ length out → put_mid at (at + length part - at) out new ≡ sets out at part
+put_part out at part new e room =
+    let n : at + length part - at ≡ length part = omega arith in
+    ap₂ (λ (j : ℕ) (l : List ℕ). put_mid at j out l) n e
+    ∙ ap (λ (l : List ℕ). take at out ++ (part ++ l)) (drop-drop (length part) at out)
+    ∙ sym (append_assoc (take at out) part (drop (at + length part) out))
+    ∙ sym (sets-eq part out at room)
 
 -- a run of stores from the front is what is written over the front
 pub sets_over : (out bs : List ℕ) → length bs ≤ length out → sets out 0 bs ≡ over out bs

@@ -1,4 +1,5 @@
 pub mod Each
+pub mod Numbered
 pub mod Numbers
 pub mod Refusal
 pub mod InTurn

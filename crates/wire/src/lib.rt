@@ -2,23 +2,23 @@
 // past the end is not stored. What each means is in specs/Numbers.antt.
 #![tactic(auto)]
 
+mod refusals;
+
 ghost use Rattle.std.specs.Prelude.{◌≡◌, ◌-◌, ◌%◌, ◌^◌, ◌≤◌, ◌<◌, get_or, set, take, drop};
 ghost use Rattle.std.proofs.lemmas.List.Edits.{sets};
 ghost use Rattle.wire.specs.Digits.{digit, digit_of};
 ghost use Rattle.wire.specs.Numbers.{le, of_le, be, of_be, bcd, of_bcd, is_bcd, field, of_bcd_byte, bcd_byte, is_bcd_byte};
 
-// What a writer answers: how many bytes it wrote over the front of its output, or the paper's number, and then it wrote none.
-#[derive(Clone, Copy)]
-pub enum Written {
-    Length(usize),
-    Refused(u8),
-}
+pub use refusals::Refusal;
+
+// What a writer answers: how many bytes it wrote over the front of its output, or why it wrote none.
+pub type Written = Result<usize, Refusal>;
 
 // a - b, and 0 where that is below 0.
 pub fn minus(a: usize, b: usize) -> usize
     ensures { result ≡ a - b }
 {
-    if b <= a { a - b } else { 0 }
+    a.saturating_sub(b)
 }
 
 // The first n bytes, or all where there are fewer.
@@ -47,9 +47,7 @@ fn le_of(s: &[u8], w: usize) -> u64
     ensures { (result ≡ of_le (field s.now 0 w)) × (result < 256 ^ w) }
 {
     let mut v = 0;
-    let mut i = w;
-    while 0 < i {
-        i -= 1;
+    for i in (0..w).rev() {
         v = v * 256 + byte_at(s, i) as u64;
     }
     v
@@ -124,53 +122,33 @@ pub fn put_all(out: &mut [u8], at: usize, src: &[u8])
     ensures { out.new ≡ sets out.old at src.now }
 {
     let part = front(src, minus(out.len(), at));
-    let mut i = 0;
-    while i < part.len() {
-        out[at + i] = part[i];
-        i += 1;
+    if at < out.len() {
+        out[at..at + part.len()].copy_from_slice(part);
     }
 }
 
 pub fn put_le16(out: &mut [u8], at: usize, v: u16)
     ensures { out.new ≡ sets out.old at (le 2 v) }
 {
-    let bytes = [(v % 256) as u8, (v / 256 % 256) as u8];
-    put_all(out, at, &bytes);
+    put_all(out, at, &v.to_le_bytes());
 }
 
 pub fn put_le32(out: &mut [u8], at: usize, v: u32)
     ensures { out.new ≡ sets out.old at (le 4 v) }
 {
-    let bytes = [
-        (v % 256) as u8,
-        (v / 256 % 256) as u8,
-        (v / 256 / 256 % 256) as u8,
-        (v / 256 / 256 / 256 % 256) as u8,
-    ];
-    put_all(out, at, &bytes);
+    put_all(out, at, &v.to_le_bytes());
 }
 
 pub fn put_le64(out: &mut [u8], at: usize, v: u64)
     ensures { out.new ≡ sets out.old at (le 8 v) }
 {
-    let bytes = [
-        (v % 256) as u8,
-        (v / 256 % 256) as u8,
-        (v / 256 / 256 % 256) as u8,
-        (v / 256 / 256 / 256 % 256) as u8,
-        (v / 256 / 256 / 256 / 256 % 256) as u8,
-        (v / 256 / 256 / 256 / 256 / 256 % 256) as u8,
-        (v / 256 / 256 / 256 / 256 / 256 / 256 % 256) as u8,
-        (v / 256 / 256 / 256 / 256 / 256 / 256 / 256 % 256) as u8,
-    ];
-    put_all(out, at, &bytes);
+    put_all(out, at, &v.to_le_bytes());
 }
 
 pub fn put_be16(out: &mut [u8], at: usize, v: u16)
     ensures { out.new ≡ sets out.old at (be 2 v) }
 {
-    let bytes = [(v / 256 % 256) as u8, (v % 256) as u8];
-    put_all(out, at, &bytes);
+    put_all(out, at, &v.to_be_bytes());
 }
 
 fn to_bcd(d: u32) -> u8
@@ -200,21 +178,18 @@ pub fn digit(d: u64) -> u8
     byte_at(b"0123456789ABCDEF", d as usize)
 }
 
-// The number whose digit is c, and 16 where c is none. Lower case is none.
+// The letters among the digits, from the first to the last.
+const A: u8 = b'A';
+
+const F: u8 = b'F';
+
+// The number whose digit is c, and 16 where c is none, as the definition has it. Lower case is none.
 pub fn digit_of(c: u8) -> u8
     ensures { result ≡ digit_of c }
 {
-    if c < 48 {
-        return 16;
+    match c {
+        b'0'..=b'9' => c - b'0',
+        A..=F => c - A + 10,
+        _ => 16,
     }
-    if c < 58 {
-        return c - 48;
-    }
-    if c < 65 {
-        return 16;
-    }
-    if c < 71 {
-        return c - 55;
-    }
-    16
 }

@@ -1,32 +1,39 @@
 -- `adi_reply::registers_after` meets its contract.
-use mathlib.Core.Path.{refl, ap, ◌∙◌}
-use mathlib.Core.List.{List}
-use Prim.Native.Nat.{ℕ, ◌+◌}
+use mathlib.Core.Path.{◌≡◌, sym, ap, ap₂, ◌∙◌}
+use mathlib.Core.List.{List, []}
+use Prim.Native.Nat.{ℕ, ◌+◌, ◌-◌}
 use native.Mathlib.Omega.{arith}
-use lib.ListN.{get_or, take}
-use Rattle.adi.proofs.Groups.{group_here, group_later, group_nowhere}
+use lib.ListN.{get_or, take, drop, drop_of_length-le}
+use Rattle.adi.specs.Groups.{groups}
+use Rattle.adi.proofs.Groups.{group_later, group_nowhere}
 use Rattle.adi_reply.specs.Layout.{registers_of, typed}
-use Rattle.adi_reply.proofs.Judging.{registers_here, none_here}
+use Rattle.adi_reply.proofs.Judging.{first_at}
 use Rattle.adi_reply.proofs.registers_after.Goals as goal
 
-pub loop-at-init : goal.loop-at-init
-loop-at-init c = refl
+pub returns-then-body-at : goal.returns-then-body-at
+returns-then-body-at c =
+    let s = c.args.body.now in
+    let h = c.if-body-at.true in
+    c.front.ensures
+    ∙ ap registers_of
+    (sym (drop_of_length-le s {i = c.loop.at} h) ∙ group_nowhere typed s c.loop.at h (c.args.k - c.loop.counter) ∙ c.loop.invariant)
 
-pub returns-then-left-eq0 : goal.returns-then-left-eq0
-returns-then-left-eq0 c =
-    let l = c.loop-at in
-    let s = c.args.pdu.now in
-    let here = group_here typed s l.at c.loop-at-test.true l.left c.if-left-eq0.true ∙ l.invariant in
-    c.front.ensures ∙ ap (λ (r : List ℕ). take (get_or s l.at 0) r) c.rest.ensures ∙ registers_here s l.at ∙ ap registers_of here
-
-pub loop-at-preserved : goal.loop-at-preserved
-loop-at-preserved c =
-    let l = c.loop-at in
-    let s = c.args.pdu.now in
-    group_later typed s l.at c.loop-at-test.true (l.at + (get_or s l.at 0 + 2)) (omega arith) l.left c.if-left-eq0.false ∙ l.invariant
+pub loop-preserved : goal.loop-preserved
+loop-preserved c =
+    let s = c.args.body.now in
+    let at = c.loop.at in
+    let to = at + (get_or s at 0 + 2) in
+    let k = c.args.k - c.loop.counter in
+    let less : c.args.k - (c.loop.counter + 1) ≡ k - 1 = omega arith in
+    ap (λ (j : ℕ). get_or (groups typed (drop to s)) j []) less
+    ∙ group_later typed s at c.if-body-at.false to (omega arith) k (λ (z : k ≡ 0). let more = c.loop-test.true in absurd (omega arith))
+    ∙ c.loop.invariant
 
 pub returns : goal.returns
 returns c =
-    let l = c.loop-at in
-    let s = c.args.pdu.now in
-    c.front-2.ensures ∙ none_here s l.at c.loop-at-test.false ∙ ap registers_of (group_nowhere typed s l.at c.loop-at-test.false l.left ∙ l.invariant)
+    let here = drop c.loop.at c.args.body.now in
+    let all = c.loop-test.false in
+    let none : 0 ≡ c.args.k - c.loop.counter = omega arith in
+    c.front-2.ensures
+    ∙ ap₂ (λ (n : ℕ) (l : List ℕ). take n l) c.byte_at.ensures c.rest.ensures
+    ∙ ap registers_of (c.rest-group.ensures ∙ first_at here ∙ ap (λ (j : ℕ). get_or (groups typed here) j []) none ∙ c.loop.invariant)

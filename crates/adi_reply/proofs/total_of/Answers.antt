@@ -1,22 +1,20 @@
 -- `adi_reply::total_of` meets its contract.
-use native.Mathlib.Nat.{zero-add}
+use mathlib.Core.Path.{◌≡◌, sym, ◌∙◌}
+use Prim.Native.Nat.{ℕ}
 use native.Mathlib.Omega.{arith}
-use Rattle.adi_reply.specs.Writing.{total}
-use Rattle.adi_reply.proofs.Judging.{total_next, total_end}
+use borrow.Author.Rules.{rules}
+use Rattle.std.specs.Prelude.{sum}
+use Rattle.std.proofs.lemmas.Iterator.{YieldsList-from_slice, YieldsList-from_map}
+use Rattle.std.proofs.lemmas.Iterator.Consumers.{sum_by_from_yields_List}
+use Rattle.adi_reply.proofs.Judging.{total_is, total_most}
 use Rattle.adi_reply.proofs.total_of.Goals as goal
-
-pub loop-i-init : goal.loop-i-init
-loop-i-init c = (zero-add (total c.args.lengths.now), omega arith, omega arith, c.requires)
-
-pub loop-i-preserved : goal.loop-i-preserved
-loop-i-preserved c =
-    let l = c.loop-i in
-    let ns = c.args.lengths.now in
-    let h = c.loop-i-test.true in
-    (omega (arith, total_next ns l.i h, l.invariant.0), omega (arith, l.invariant.1), omega arith, l.invariant.3)
 
 pub returns : goal.returns
 returns c =
-    let l = c.loop-i in
     let ns = c.args.lengths.now in
-    (omega (arith, total_end ns l.i c.loop-i-test.false, l.invariant.0), omega (arith, l.invariant.1, l.invariant.2, l.invariant.3))
+    let all : c.sum.result ≡ sum ns =
+    sum_by_from_yields_List (λ (n : ℕ). n) ns _ _ c.sum.ensures.ran
+    (YieldsList-from_map _ (λ (n : ℕ). n) (YieldsList-from_slice ns cc) c.map.ensures.closure (λ x r q k. search rules))
+    in
+    let is = all ∙ sym (total_is ns) in
+    (is, omega (arith, is, total_most ns (λ (i : ℕ). (c.type_inv.lengths i).fits), c.requires))

@@ -1,12 +1,9 @@
 -- `bits::eight_at` meets its contract. The loop's invariant: v is the bits of the first k bytes.
 use mathlib.Core.Path.{◌≡◌}
-use Prim.Native.Nat.{◌-◌, ◌*◌, ◌≤◌}
+use Prim.Native.Nat.{◌*◌, ◌≤◌}
 use Rattle.wire.specs.Numbers.{field}
 use Rattle.bits.specs.Bits.{of_bits, bits_in}
 use Rattle.bits.proofs.eight_at.Given as goal
 
 abbrev pub invariant-loop-k : goal.invariant-loop-k
 invariant-loop-k l = (l.k ≤ 8) × (l.v ≡ of_bits (field (bits_in l.s) (8 * l.i) (8 * l.k)))
-
-abbrev pub decreases-loop-k : goal.decreases-loop-k
-decreases-loop-k l = 8 - l.k

@@ -1,12 +1,13 @@
 -- `card::fault_of` meets its contract.
-use mathlib.Core.Path.{sym, ap, ◌∙◌}
-use Rattle.card.specs.Reading.{told_card_read}
-use Rattle.card.specs.declared.CardRead.{CardRead}
-use Rattle.card.proofs.Order.{read_told}
+use mathlib.Core.Path.{sym}
+use Rattle.wire.proofs.Answer.{handed_on, none_judged, judged_none}
+use Rattle.card.specs.Reading.{read_card}
 use Rattle.card.proofs.fault_of.Goals as goal
 
-pub returns-in-Card : goal.returns-in-Card
-returns-in-Card c = sym (read_told _ ∙ ap (λ (x : CardRead). (told_card_read x).number) (sym c.read_card.ensures ∙ c.in-Card.is))
+pub returns-in_err-read_card : goal.returns-in_err-read_card
+unfolding read_card
+returns-in_err-read_card c = handed_on _ _ _ _ _ c.from_residual.ensures c.in_err-read_card.ensures
 
-pub returns-in-Refused : goal.returns-in-Refused
-returns-in-Refused c = sym (read_told _ ∙ ap (λ (x : CardRead). (told_card_read x).number) (sym c.read_card.ensures ∙ c.in-Refused.is))
+pub returns : goal.returns
+unfolding read_card
+returns c = sym (judged_none _ _ (none_judged _ _ _ c.in_ok-read_card.ensures))

@@ -1,27 +1,17 @@
 -- `card::read_card` meets its contract.
-use mathlib.Core.Path.{ap, ◌∙◌}
-use native.Mathlib.Omega.{arith}
-use Rattle.wire.proofs.Refusal.{hit}
-use Rattle.wire.proofs.Answer.{answers_refused, answers_accepted}
-use Rattle.card.specs.Layout.{card_from, card_form}
+use mathlib.Core.Path.{sym, ap, ◌∙◌}
+use Rattle.std.specs.Prelude.{Ok}
+use Rattle.wire.proofs.Answer.{handed_on, accepted_as, judged_none}
+use Rattle.card.specs.Layout.{card_from}
 use Rattle.card.specs.Reading.{read_card}
-use Rattle.card.specs.declared.CardRead.TheVariants as R
-use Rattle.card.proofs.Widths.{found_fields, form_judged}
 use Rattle.card.proofs.read_card.Goals as goal
 
-pub returns-then-other_length : goal.returns-then-other_length
+pub returns-in_err-f : goal.returns-in_err-f
 unfolding read_card
-returns-then-other_length c = answers_refused R.Refused _ 50 _ (hit _ _ 50 _ c.other_length.ensures c.if-other_length.true) (λ e. omega arith)
-
-pub returns-then-refusal-ne0 : goal.returns-then-refusal-ne0
-unfolding read_card
-returns-then-refusal-ne0 c =
-    let s = c.args.bytes.now in
-    answers_refused R.Refused _ _ _ (form_judged card_form s _ _ _ _ c.other_length.ensures c.if-other_length.false c.first_bytes-card.ensures c.fields_of-f.ensures c.later_fault-refusal.ensures) c.if-refusal-ne0.true
+returns-in_err-f c = handed_on _ _ _ _ _ c.from_residual.ensures c.in_err-f.ensures
 
 pub returns : goal.returns
 unfolding read_card
 returns c =
-    let s = c.args.bytes.now in
-    answers_accepted R.Refused _ _ _ _ (form_judged card_form s _ _ _ _ c.other_length.ensures c.if-other_length.false c.first_bytes-card.ensures c.fields_of-f.ensures c.later_fault-refusal.ensures) c.if-refusal-ne0.false
-    (ap R.Card (c.card_from.ensures ∙ ap card_from (found_fields s _ _ c.first_bytes-card.ensures c.fields_of-f.ensures)))
+    let said = accepted_as _ _ _ (sym c.in_ok-f.ensures) in
+    ap Ok (c.card_from.ensures ∙ ap card_from (sym said.1)) ∙ sym (judged_none _ _ said.0)

@@ -12,5 +12,5 @@ put_field-requires c =
 
 pub returns : goal.returns
 returns c =
-    stored_as _ _ _ _ _ _ (archive_text c.args.a _ c.source_number.ensures)
+    stored_as _ _ _ _ _ _ (archive_text c.args.a _ c.from.ensures)
     (stored_then _ _ _ _ _ _ _ (numeral 10 1 _) (10 ∷ []) c.put_card-archive.ensures c.put_field.ensures.0)

@@ -1,12 +1,14 @@
 -- `card_text::put_text` meets its contract.
 use mathlib.Core.Path.{refl, ◌∙◌}
-use Rattle.wire.proofs.Refusal.{hit, skip}
+use Rattle.wire.specs.Numbered.{refusal}
+use Rattle.wire.proofs.Rules.{hit, skip}
 use Rattle.wire.proofs.Writes.{writes_refused, writes_all}
 use Rattle.card_text.proofs.Line.{text_over}
 use Rattle.card_text.proofs.put_text.Goals as goal
 
 pub returns-then-too_small : goal.returns-then-too_small
-returns-then-too_small c = writes_refused _ _ 15 _ (hit _ _ _ _ c.too_small.ensures c.if-too_small.true)
+unfolding refusal
+returns-then-too_small c = writes_refused _ _ 15 _ _ (hit _ _ _ _ c.too_small.ensures c.if-too_small.true) refl
 
 pub returns : goal.returns
 returns c =

@@ -4,12 +4,6 @@ use Rattle.card_text.proofs.Text.{stored_then, stored_as}
 use Rattle.card_text.proofs.Line.{time_text_lem}
 use Rattle.card_text.proofs.put_time.Goals as goal
 
-pub put_field-second-requires : goal.put_field-second-requires
-put_field-second-requires c = (omega (arith, c.requires, c.put_field-minute.ensures.1, c.put_field-hour.ensures.1, c.put_field-day.ensures.1, c.put_field-month.ensures.1), omega arith, omega arith)
-
-pub put_field-requires : goal.put_field-requires
-put_field-requires c = (omega (arith, c.requires, c.put_field-second.ensures.1, c.put_field-minute.ensures.1, c.put_field-hour.ensures.1, c.put_field-day.ensures.1, c.put_field-month.ensures.1), omega arith, omega arith)
-
 -- the whole text, piece after piece
 pub returns : goal.returns
 returns c =

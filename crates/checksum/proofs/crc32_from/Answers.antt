@@ -1,24 +1,15 @@
--- `checksum::crc32_from` meets its contract. The loop's invariant: the bytes that are left, after the remainder as it is, give the answer.
-use mathlib.Core.Path.{refl, ap, ◌∙◌, sym}
-use native.Mathlib.Omega.{arith}
+-- `checksum::crc32_from` meets its contract.
+use mathlib.Core.Path.{refl, ap}
 use Rattle.checksum.specs.Crc.{crc_bits}
-use Rattle.checksum.specs.Crc32.{CRC32, turned, crc32_from}
+use Rattle.checksum.specs.Crc32.{turned, crc32_from}
 use Rattle.checksum.specs.Table.{fours}
-use Rattle.checksum.proofs.Remainder.{turn, last}
 use Rattle.checksum.proofs.crc32_from.Goals as goal
 
-pub loop-i-init : goal.loop-i-init
-loop-i-init c = (omega arith, refl)
-
 -- the table holds what it must: computed, entry by entry
-pub add_byte_to_32-c-requires : goal.add_byte_to_32-c-requires
+pub invariant_of-table : goal.invariant_of-table
 unfolding fours crc_bits
-add_byte_to_32-c-requires c = refl
-
-pub loop-i-preserved : goal.loop-i-preserved
-loop-i-preserved c =
-    (omega arith, rw c.add_byte_to_32-c.ensures (sym (turn CRC32 _ _ _ c.loop-i-test.true) ∙ c.loop-i.invariant.1))
+invariant_of-table c = record { holds = refl }
 
 pub returns : goal.returns
 unfolding crc32_from
-returns c = ap turned (sym (last CRC32 _ _ _ c.loop-i-test.false) ∙ c.loop-i.invariant.1)
+returns c = ap turned c.remainder.ensures

@@ -1,17 +1,12 @@
 -- `modbus::read_rtu` meets its contract.
-use mathlib.Core.Path.{ap₂}
-use Prim.Native.Nat.{ℕ}
-use Rattle.wire.proofs.Answer.{answers_refused, answers_accepted}
+use Rattle.std.proofs.Common.{rules}
 use Rattle.modbus.specs.Rtu.{read_rtu}
-use Rattle.modbus.specs.declared.RtuRead.TheVariants.{Rtu as Found, Refused}
 use Rattle.modbus.proofs.read_rtu.Goals as goal
 
-pub returns-then-no-ne0 : goal.returns-then-no-ne0
+pub returns-in_err-judge_rtu : goal.returns-in_err-judge_rtu
 unfolding read_rtu
-returns-then-no-ne0 c = answers_refused Refused _ _ _ c.rtu_fault-no.ensures c.if-no-ne0.true
+returns-in_err-judge_rtu c = search rules
 
 pub returns : goal.returns
 unfolding read_rtu
-returns c =
-    answers_accepted Refused _ _ _ _ c.rtu_fault-no.ensures c.if-no-ne0.false
-    (ap₂ (λ (a f : ℕ). Found (record { address = a; function = f })) c.byte_at.ensures c.byte_at-2.ensures)
+returns c = search rules

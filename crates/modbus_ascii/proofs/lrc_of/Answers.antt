@@ -7,9 +7,9 @@ use Rattle.modbus_ascii.proofs.lrc_of.Goals as goal
 
 pub returns : goal.returns
 returns c =
-    let a = c.args in
+    let m = c.args.m.now in
     c.lrc.ensures
     ∙ ap closing
     (c.sum_from.ensures
-    ∙ ap (λ (n : ℕ). sum_from n a.«data».now) c.sum_byte.ensures
-    ∙ sum_content a.address a.function a.«data».now)
+    ∙ ap (λ (n : ℕ). sum_from n m.«data».now) c.sum_byte.ensures
+    ∙ sum_content m.address m.function m.«data».now)

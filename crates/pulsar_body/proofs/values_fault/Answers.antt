@@ -1,16 +1,28 @@
 -- `pulsar_body::values_fault` meets its contract.
-use mathlib.Core.Path.{sym, ◌∙◌}
-use Rattle.wire.proofs.Refusal.{hit, skip}
+use Prim.Native.Nat.{ℕ}
+use mathlib.Core.List.{[], ◌∷◌}
+use Rattle.wire.specs.Numbered.{refusal}
+use Rattle.wire.specs.Refusal.{◌when◌, first}
+use Rattle.wire.proofs.Answer.{handed_on, refuses, passes}
+use Rattle.pulsar_body.specs.Body.{bad_values}
+use Rattle.pulsar_body.proofs.Laws.{width_refused, width_passed}
 use Rattle.pulsar_body.proofs.values_fault.Goals as goal
 
-pub returns-then-bad_width : goal.returns-then-bad_width
-returns-then-bad_width c = search (hit, skip) depth 12
+pub returns-in_err-width : goal.returns-in_err-width
+returns-in_err-width c =
+    handed_on _ _ _ _ _ c.from_residual.ensures (width_refused (tt {0}) c.args.width _ _ c.in_err-width.ensures)
 
-pub bad_values-requires : goal.bad_values-requires
-bad_values-requires c = sym c.bad_width.ensures ∙ c.if-bad_width.false
-
-pub returns-then-bad_values : goal.returns-then-bad_values
-returns-then-bad_values c = search (hit, skip) depth 12
+pub returns-then-are_bad : goal.returns-then-are_bad
+unfolding refusal
+returns-then-are_bad c =
+    let a = c.args in
+    let w = c.in_ok-width in
+    width_passed tt w.width.bytes a.width (λ (k : ℕ). first (11 when bad_values a.due k a.mask a.values.now ∷ [])) _ w.ensures w.width.good
+    (search (refuses, passes) depth 12)
 
 pub returns : goal.returns
-returns c = search (hit, skip) depth 12
+returns c =
+    let a = c.args in
+    let w = c.in_ok-width in
+    width_passed tt w.width.bytes a.width (λ (k : ℕ). first (11 when bad_values a.due k a.mask a.values.now ∷ [])) _ w.ensures w.width.good
+    (search passes depth 12)

@@ -1,5 +1,5 @@
 -- `pulsar_frame::missing` meets its contract.
-use Rattle.wire.proofs.Refusal.{hit, skip}
+use Rattle.wire.proofs.Rules.{hit, skip}
 use Rattle.pulsar_frame.proofs.missing.Goals as goal
 
 pub returns-then-too_short : goal.returns-then-too_short

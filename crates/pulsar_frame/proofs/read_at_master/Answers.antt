@@ -1,14 +1,15 @@
 -- `pulsar_frame::read_at_master` meets its contract.
-use Rattle.pulsar_frame.specs.Reading.{read_at_master}
-use Rattle.pulsar_frame.proofs.OnItsWay.{refuses, finds}
+use mathlib.Core.Path.{ap, sym, ◌∙◌}
+use Rattle.std.specs.Prelude.{Ok}
+use Rattle.wire.proofs.Answer.{none_judged}
+use Rattle.pulsar_frame.specs.Reading.{read_answer, read_at_master}
+use Rattle.pulsar_frame.proofs.OnItsWay.{sends_back}
 use Rattle.pulsar_frame.proofs.read_at_master.Goals as goal
 
-pub returns-then-n-ne0 : goal.returns-then-n-ne0
+pub returns-in-Ok : goal.returns-in-Ok
 unfolding read_at_master
-returns-then-n-ne0 c =
-    refuses c.args.bytes.now _ _ c.fault-n.ensures _ c.refused.ensures c.if-n-ne0.true
+returns-in-Ok c = ap Ok c.frame_of.ensures ∙ sym (ap (read_answer c.args.bytes.now) (none_judged tt _ tt c.in-Ok.ensures))
 
-pub returns : goal.returns
+pub returns-in-Err : goal.returns-in-Err
 unfolding read_at_master
-returns c =
-    finds c.args.bytes.now _ _ c.fault-n.ensures _ c.frame_of.ensures c.if-n-ne0.false
+returns-in-Err c = sends_back _ _ _ _ c.in-Err.ensures c.fault_of.ensures

@@ -1,10 +1,13 @@
 -- `pulsar_frame::write_reply` meets its contract.
-use Rattle.wire.proofs.Refusal.{hit, skip}
+use mathlib.Core.Path.{refl}
+use Rattle.wire.specs.Numbered.{refusal}
+use Rattle.wire.proofs.Rules.{hit, skip}
 use Rattle.wire.proofs.Writes.{writes_refused, writes_as}
 use Rattle.pulsar_frame.proofs.write_reply.Goals as goal
 
 pub returns-then-bad_own : goal.returns-then-bad_own
-returns-then-bad_own c = writes_refused _ _ 0 _ (hit _ _ _ _ c.bad_own.ensures c.if-bad_own.true)
+unfolding refusal
+returns-then-bad_own c = writes_refused _ _ 0 _ _ (hit _ _ _ _ c.bad_own.ensures c.if-bad_own.true) refl
 
 pub returns : goal.returns
 returns c = search (writes_as, skip) depth 4

@@ -1,10 +1,21 @@
 -- `pulsar_request::read_request` meets its contract.
-use Rattle.pulsar_request.proofs.Cases.{read_refused, read_accepted}
+use Rattle.std.proofs.lemmas.Result.{err_from_is_err_and}
+use Rattle.pulsar_request.proofs.Cases.{read_refused, read_fields_refused, read_done}
 use Rattle.pulsar_request.proofs.read_request.Goals as goal
 
-pub returns-then-refusal-ne0 : goal.returns-then-refusal-ne0
-returns-then-refusal-ne0 c = read_refused _ _ _ _ _ c.function_from-asked.ensures c.read_fault-refusal.ensures c.if-refusal-ne0.true
+pub returns-in_err-asked : goal.returns-in_err-asked
+returns-in_err-asked c =
+    let a = c.args in
+    let p = err_from_is_err_and c.from_residual.result c.from_residual.ensures.1 in
+    rw (p.1, p.2) (read_refused a.function a.width _ a.body.now _ c.function_from.ensures c.le32_at-mask.ensures _ c.in_err-asked.ensures)
+
+pub returns-in_err-body_fields : goal.returns-in_err-body_fields
+returns-in_err-body_fields c =
+    let a = c.args in
+    let p = err_from_is_err_and c.from_residual-in_err-body_fields.result c.from_residual-in_err-body_fields.ensures.1 in
+    rw (p.1, p.2) (read_fields_refused a.function a.width _ a.body.now _ c.function_from.ensures c.le32_at-mask.ensures _ _ c.in_ok-asked.ensures c.in_err-body_fields.ensures)
 
 pub returns : goal.returns
 returns c =
-    read_accepted _ _ _ _ _ c.function_from-asked.ensures c.read_fault-refusal.ensures c.if-refusal-ne0.false _ c.request_of.ensures
+    let a = c.args in
+    read_done a.function a.width _ a.body.now _ c.function_from.ensures c.le32_at-mask.ensures _ _ c.in_ok-asked.ensures c.in_ok-body_fields.ensures c.request_of.ensures

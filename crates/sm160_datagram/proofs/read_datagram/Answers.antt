@@ -1,14 +1,15 @@
 -- `sm160_datagram::read_datagram` meets its contract.
-use mathlib.Core.Path.{ap}
-use Rattle.wire.proofs.Answer.{answers_refused, answers_accepted}
+use mathlib.Core.Path.{sym, ap, ◌∙◌}
+use borrow.Author.Rules.{rules}
+use Rattle.std.specs.Prelude.{Ok}
+use Rattle.wire.proofs.Answer.{judged_none, none_judged}
 use Rattle.sm160_datagram.specs.Reading.{read_datagram}
-use Rattle.sm160_datagram.specs.declared.DatagramRead.TheVariants.{Datagram, Refused}
 use Rattle.sm160_datagram.proofs.read_datagram.Goals as goal
 
-pub returns-then-fault-eq0 : goal.returns-then-fault-eq0
+pub returns-in_err-fault_of : goal.returns-in_err-fault_of
 unfolding read_datagram
-returns-then-fault-eq0 c = answers_accepted Refused _ _ _ _ c.fault_of-fault.ensures c.if-fault-eq0.true (ap Datagram c.byte_at.ensures)
+returns-in_err-fault_of c = search rules
 
-pub returns-else-fault-eq0 : goal.returns-else-fault-eq0
+pub returns : goal.returns
 unfolding read_datagram
-returns-else-fault-eq0 c = answers_refused Refused _ _ _ c.fault_of-fault.ensures c.if-fault-eq0.false
+returns c = ap Ok c.byte_at.ensures ∙ sym (judged_none _ _ (none_judged tt _ tt c.in_ok-fault_of.ensures))

@@ -1,28 +1,24 @@
 -- `sm160_read_file::write_reply` meets its contract.
-use mathlib.Core.Path.{sym, ap, ◌∙◌}
-use lib.Dec.{ltb}
-use lib.ListN.{length}
-use borrow.Author.Tests.{lt-ltb, le-ltb}
-use Rattle.wire.proofs.Refusal.{hit, skip}
-use Rattle.wire.proofs.Writes.{writes_refused, writes_all}
+use native.Mathlib.Omega.{arith}
+use Rattle.wire.proofs.Writes.{writes_all}
+use Rattle.sm160_read_file.specs.Writing.{reply_bytes}
+use Rattle.sm160_read_file.proofs.Order.{writes_handed, may_write}
 use Rattle.sm160_read_file.proofs.Stores.{reply_length}
 use Rattle.sm160_read_file.proofs.write_reply.Goals as goal
 
-pub returns-then-message-gt65535 : goal.returns-then-message-gt65535
-returns-then-message-gt65535 c =
-    let long = lt-ltb _ _ c.if-message-gt65535.true in
-    writes_refused _ _ 35 _ (search hit depth 12)
-
-pub returns-then-out-n : goal.returns-then-out-n
-returns-then-out-n c =
-    let short = le-ltb _ _ c.if-message-gt65535.false in
+pub returns-in_err-n : goal.returns-in_err-n
+returns-in_err-n c =
     let a = c.args in
-    let room = ap (ltb (length a.out.now)) (reply_length a.status a.message.now a.content.now) ∙ lt-ltb _ _ c.if-out-n.true in
-    writes_refused _ _ 15 _ (search (hit, skip) depth 12)
+    writes_handed a.message.now (reply_bytes a.status a.message.now a.content.now) a.out.now _ (reply_length a.status a.message.now a.content.now) _ _ c.from_residual.ensures c.in_err-n.ensures
+
+pub put_reply-requires : goal.put_reply-requires
+put_reply-requires c =
+    let a = c.args in
+    let may = may_write a.message.now (reply_bytes a.status a.message.now a.content.now) a.out.now _ (reply_length a.status a.message.now a.content.now) _ c.in_ok-n.ensures in
+    (may.0, omega (arith, may.1))
 
 pub returns : goal.returns
 returns c =
     let a = c.args in
-    let short = le-ltb _ _ c.if-message-gt65535.false in
-    let room = ap (ltb (length a.out.now)) (reply_length a.status a.message.now a.content.now) ∙ le-ltb _ _ c.if-out-n.false in
-    writes_all _ _ _ _ _ (search skip depth 12) (sym (reply_length a.status a.message.now a.content.now)) c.put_reply.ensures
+    let may = may_write a.message.now (reply_bytes a.status a.message.now a.content.now) a.out.now _ (reply_length a.status a.message.now a.content.now) _ c.in_ok-n.ensures in
+    writes_all _ _ _ _ _ may.2 may.3 c.put_reply.ensures

@@ -1,13 +1,13 @@
 -- `sm160_receiver::open` meets its contract.
-use mathlib.Core.Path.{refl, sym, ◌∙◌}
-use Rattle.wire.specs.Refusal.{pick}
+use Rattle.wire.specs.Numbered.{refusal as by_number}
+use Rattle.wire.proofs.Answer.{refuses, passes}
 use Rattle.sm160_receiver.specs.Receiving.{opening}
 use Rattle.sm160_receiver.proofs.open.Goals as goal
 
 pub returns-then-bad_largest : goal.returns-then-bad_largest
-unfolding opening pick
-returns-then-bad_largest c = rw (sym c.bad_largest.ensures ∙ c.if-bad_largest.true) refl
+unfolding opening by_number
+returns-then-bad_largest c = search (refuses, passes) depth 12
 
 pub returns : goal.returns
-unfolding opening pick
-returns c = rw (sym c.bad_largest.ensures ∙ c.if-bad_largest.false) refl
+unfolding opening
+returns c = search passes depth 12

@@ -1,11 +1,6 @@
--- `sm160_text::position_of` meets its contract. The loop's invariant: i characters were counted.
-use Prim.Native.Nat.{◌-◌}
-use lib.ListN.{length}
+-- `sm160_text::position_of` meets its contract. The loop's invariant: so many characters were counted.
 use Rattle.sm160_text.proofs.Positions.{Counted}
 use Rattle.sm160_text.proofs.position_of.Given as goal
 
-abbrev pub invariant-loop-i : goal.invariant-loop-i
-invariant-loop-i l = Counted l.before l.line l.column l.i
-
-abbrev pub decreases-loop-i : goal.decreases-loop-i
-decreases-loop-i l = length l.before - l.i
+abbrev pub invariant-loop-b : goal.invariant-loop-b
+invariant-loop-b l = Counted l.b-items l.line l.column l.b-index

@@ -1,13 +1,14 @@
--- `sm160_text::text_end` meets its contract. The loop's invariant: the text ends where it does from here.
-use mathlib.Core.Path.{◌∙◌}
-use Rattle.sm160_text.proofs.Places.{text_end_here, text_end_more, text_end_past}
+-- `sm160_text::text_end` meets its contract.
+use borrow.Author.Rules.{rules}
+use borrow.Author.Tests.{tests}
+use Rattle.std.proofs.lemmas.Iterator.{YieldsList-from_slice}
+use Rattle.std.proofs.lemmas.Iterator.Search.{position_from_yields_List}
+use Rattle.sm160_text.specs.Text.{ends_text}
+use Rattle.sm160_text.proofs.Places.{text_end_is}
 use Rattle.sm160_text.proofs.text_end.Goals as goal
 
-pub returns-then-ends_text : goal.returns-then-ends_text
-returns-then-ends_text c = text_end_here _ _ _ c.loop-e-test.true c.ends_text.ensures c.if-ends_text.true ∙ c.loop-e.invariant
-
-pub loop-e-preserved : goal.loop-e-preserved
-loop-e-preserved c = text_end_more _ _ _ c.loop-e-test.true c.ends_text.ensures c.if-ends_text.false ∙ c.loop-e.invariant
-
 pub returns : goal.returns
-returns c = text_end_past _ _ c.loop-e-test.false ∙ c.loop-e.invariant
+returns c =
+    text_end_is _ c.rest-rest.result.now _ _ _
+    (position_from_yields_List ends_text _ _ _ c.position.ensures.ran (YieldsList-from_slice c.rest-rest.result.now cc) (λ x b q k. search (rules, tests)))
+    c.rest-rest.ensures c.unwrap_or.ensures

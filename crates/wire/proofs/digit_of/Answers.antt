@@ -1,33 +1,19 @@
--- `wire::digit_of` meets its contract: it goes by ranges, which are computed for all characters.
-use mathlib.Core.Path.{refl, ◌∙◌}
+-- `wire::digit_of` meets its contract.
 use native.Mathlib.Omega.{arith}
-use borrow.Author.Tests.{lt-ltb, le-ltb}
-use Rattle.wire.proofs.Digits.{by_range_lem}
-use Rattle.wire.proofs.Refusal.{hit, skip}
+use Rattle.wire.proofs.Digits.{decimal_number, letter_number, no_number}
 use Rattle.wire.proofs.digit_of.Goals as goal
 
-pub returns-then-c-lt48 : goal.returns-then-c-lt48
-returns-then-c-lt48 c = hit _ _ _ _ refl (lt-ltb _ _ c.if-c-lt48.true) ∙ by_range_lem _ (omega arith)
+pub returns-in-48-to-57 : goal.returns-in-48-to-57
+returns-in-48-to-57 c = decimal_number _ (omega arith) (omega arith)
 
-pub returns-then-c-lt58 : goal.returns-then-c-lt58
-returns-then-c-lt58 c = skip _ _ _ _ _ refl (le-ltb _ _ c.if-c-lt48.false) (hit _ _ _ _ refl (lt-ltb _ _ c.if-c-lt58.true)) ∙ by_range_lem _ (omega arith)
+pub returns-in-65-to-70 : goal.returns-in-65-to-70
+returns-in-65-to-70 c = letter_number _ (omega arith) (omega arith)
 
-pub returns-then-c-lt65 : goal.returns-then-c-lt65
-returns-then-c-lt65 c =
-    skip _ _ _ _ _ refl (le-ltb _ _ c.if-c-lt48.false)
-    (skip _ _ _ _ _ refl (le-ltb _ _ c.if-c-lt58.false) (hit _ _ _ _ refl (lt-ltb _ _ c.if-c-lt65.true)))
-    ∙ by_range_lem _ (omega arith)
+pub returns-in_default : goal.returns-in_default
+returns-in_default c = no_number _ (omega arith) (λ h k. omega arith) (λ h k. omega arith)
 
-pub returns-then-c-lt71 : goal.returns-then-c-lt71
-returns-then-c-lt71 c =
-    skip _ _ _ _ _ refl (le-ltb _ _ c.if-c-lt48.false)
-    (skip _ _ _ _ _ refl (le-ltb _ _ c.if-c-lt58.false)
-    (skip _ _ _ _ _ refl (le-ltb _ _ c.if-c-lt65.false) (hit _ _ _ _ refl (lt-ltb _ _ c.if-c-lt71.true))))
-    ∙ by_range_lem _ (omega arith)
+pub returns-in_default-2 : goal.returns-in_default-2
+returns-in_default-2 c = no_number _ (omega arith) (λ h k. omega arith) (λ h k. omega arith)
 
-pub returns : goal.returns
-returns c =
-    skip _ _ _ _ _ refl (le-ltb _ _ c.if-c-lt48.false)
-    (skip _ _ _ _ _ refl (le-ltb _ _ c.if-c-lt58.false)
-    (skip _ _ _ _ _ refl (le-ltb _ _ c.if-c-lt65.false) (skip _ _ _ _ _ refl (le-ltb _ _ c.if-c-lt71.false) refl)))
-    ∙ by_range_lem _ (omega arith)
+pub returns-in_default-3 : goal.returns-in_default-3
+returns-in_default-3 c = no_number _ (omega arith) (λ h k. omega arith) (λ h k. omega arith)

@@ -1,7 +1,8 @@
 -- `wire::put_be16` meets its contract.
-use Rattle.wire.specs.Numbers.{be, digits}
+use mathlib.Core.Path.{ap, ◌∙◌}
+use Rattle.std.proofs.lemmas.List.Edits.{sets}
+use Rattle.wire.proofs.Widths.{be_bytes}
 use Rattle.wire.proofs.put_be16.Goals as goal
 
 pub returns : goal.returns
-unfolding be digits
-returns c = cc
+returns c = c.put_all.ensures ∙ ap (sets c.args.out.now c.args.at) (c.to_be_bytes.ensures ∙ be_bytes _ _)

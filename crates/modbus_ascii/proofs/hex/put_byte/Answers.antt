@@ -1,11 +1,6 @@
 -- `modbus_ascii::hex::put_byte` meets its contract.
-use native.Mathlib.Omega.{arith}
-use lib.ListN.{length-set}
 use Rattle.modbus_ascii.proofs.Steps.{stored_byte}
 use Rattle.modbus_ascii.proofs.hex.put_byte.Goals as goal
-
-pub bounds-out-at-2 : goal.bounds-out-at-2
-bounds-out-at-2 c = rw length-set (omega arith)
 
 pub returns : goal.returns
 returns c =

@@ -5,4 +5,4 @@ use Rattle.pulsar_frame.proofs.write.put_body.Goals as goal
 pub returns : goal.returns
 returns c =
     let a = c.args in
-    cc (stored_body a.address a.function a.id a.payload.now a.out.now)
+    cc (stored_body a.names.address a.names.function a.names.id a.payload.now a.out.now)

@@ -1,24 +1,23 @@
 -- `pulsar_frame::write::write_frame` meets its contract.
-use mathlib.Core.Path.{sym, ◌∙◌}
+use mathlib.Core.Path.{refl, sym, ◌∙◌}
 use borrow.Author.Tests.{ltb-false}
-use Rattle.wire.proofs.Refusal.{hit, skip}
+use Rattle.wire.specs.Numbered.{refusal}
+use Rattle.wire.proofs.Rules.{hit, skip}
 use Rattle.wire.proofs.Writes.{writes_refused, writes_all}
 use Rattle.pulsar_frame.proofs.Stores.{length_frame, over_frame_lem}
 use Rattle.pulsar_frame.proofs.write.write_frame.Goals as goal
 
 pub returns-then-too_long : goal.returns-then-too_long
-returns-then-too_long c = writes_refused _ _ 16 _ (search (hit, skip) depth 4)
+unfolding refusal
+returns-then-too_long c = writes_refused _ _ 16 _ _ (search (hit, skip) depth 4) refl
 
 pub returns-then-no_room : goal.returns-then-no_room
-returns-then-no_room c = writes_refused _ _ 15 _ (search (hit, skip) depth 4)
-
-pub put_frame-requires : goal.put_frame-requires
-put_frame-requires c =
-    (ltb-false _ _ (sym c.too_long.ensures ∙ c.if-too_long.false), ltb-false _ _ (sym c.no_room.ensures ∙ c.if-no_room.false))
+unfolding refusal
+returns-then-no_room c = writes_refused _ _ 15 _ _ (search (hit, skip) depth 4) refl
 
 pub returns : goal.returns
 returns c =
     let a = c.args in
     let room = ltb-false _ _ (sym c.no_room.ensures ∙ c.if-no_room.false) in
-    writes_all _ _ _ _ _ (search skip depth 4) (sym (length_frame a.address a.function a.id a.payload.now))
-    (over_frame_lem a.address a.function a.id a.payload.now a.out.now _ room c.put_frame.ensures)
+    writes_all _ _ _ _ _ (search skip depth 4) (sym (length_frame a.names.address a.names.function a.names.id a.payload.now))
+    (over_frame_lem a.names.address a.names.function a.names.id a.payload.now a.out.now _ room c.put_frame.ensures)

@@ -1,8 +1,0 @@
--- `checksum::add_byte` meets its contract.
-use mathlib.Core.Path.{ap, ◌∙◌}
-use Rattle.checksum.specs.Crc.{CRC16, crc_bits}
-use Rattle.checksum.proofs.add_byte.Goals as goal
-
-pub returns : goal.returns
-unfolding crc_bits
-returns c = c.four_bits-2.ensures ∙ ap (crc_bits CRC16 4) c.four_bits.ensures

@@ -1,0 +1,48 @@
+-- What `pulsar_body::Body` asks of replies, shown: the head that a reply has is as long as its form says, it is short, and each rule of the fields
+-- has a refusal's number.
+-- Assumes nothing.
+use mathlib.Core.Path.{◌≡◌, refl}
+use lib.Dec.{T}
+use lib.ListN.{length, length-append}
+use Prim.Native.Nat.{ℕ, ◌≤◌}
+use native.Mathlib.Omega.{arith}
+use Rattle.wire.specs.Refusal.{numbered}
+use Rattle.wire.proofs.Numbers.{length_le}
+use Rattle.pulsar_reply.specs.Layout.{function_of, head_bytes, head_length}
+use Rattle.pulsar_reply.specs.Writing.{field_faults}
+use Rattle.pulsar_reply.specs.declared.Reply.{Reply}
+use Rattle.pulsar_reply.specs.declared.Reply.TheVariants as P
+use Rattle.pulsar_reply.specs.declared.Function.{Function}
+use Rattle.pulsar_reply.specs.declared.Function.TheVariants as F
+
+pub length_head : (q : Reply) → length (head_bytes q) ≡ head_length (function_of q)
+length_head (P.Error n) = refl
+length_head P.Channels = refl
+length_head (P.ChannelsWritten mask) = length_le 4 mask
+length_head (P.Clock d) = refl
+length_head P.NoClock = refl
+length_head (P.ClockSet status) = refl
+length_head (P.Archive a) = simp (length-append, length_le)
+length_head P.Parameter = refl
+length_head P.ParameterWritten = refl
+
+pub head_few : (f : Function) → head_length f ≤ 245
+head_few F.Error = omega arith
+head_few F.Channels = omega arith
+head_few F.ChannelsWritten = omega arith
+head_few F.Clock = omega arith
+head_few F.ClockSet = omega arith
+head_few F.Archive = omega arith
+head_few F.Parameter = omega arith
+head_few F.ParameterWritten = omega arith
+
+pub numbered_faults : (q : Reply) (mask : ℕ) → T (numbered (field_faults q mask))
+numbered_faults (P.Error n) mask = tt
+numbered_faults P.Channels mask = tt
+numbered_faults (P.ChannelsWritten m) mask = tt
+numbered_faults (P.Clock d) mask = tt
+numbered_faults P.NoClock mask = tt
+numbered_faults (P.ClockSet status) mask = tt
+numbered_faults (P.Archive a) mask = tt
+numbered_faults P.Parameter mask = tt
+numbered_faults P.ParameterWritten mask = tt

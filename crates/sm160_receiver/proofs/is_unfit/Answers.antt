@@ -1,8 +1,0 @@
--- `sm160_receiver::is_unfit` meets its contract.
-use mathlib.Core.Path.{refl}
-use Rattle.sm160_receiver.specs.Receiving.{unfit}
-use Rattle.sm160_receiver.proofs.is_unfit.Goals as goal
-
-pub returns : goal.returns
-unfolding unfit
-returns c = rw c.bad_largest.ensures refl

@@ -1,7 +1,0 @@
--- `turns::is_unfit` meets its contract.
-use Rattle.turns.specs.Table.{unfit}
-use Rattle.turns.proofs.is_unfit.Goals as goal
-
-pub returns : goal.returns
-unfolding unfit
-returns c = cc
