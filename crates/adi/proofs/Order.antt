@@ -7,14 +7,14 @@ use Prim.Native.Nat.{ℕ, zero, suc, ◌≤◌}
 use native.Mathlib.Omega.{arith}
 use lib.Dec.{ltb}
 use Rattle.wire.specs.Refusal.{pick, first, FirstInOrder}
-use Rattle.wire.proofs.Answer.{answer_first}
+use Rattle.wire.proofs.Answer.{named_first}
 use Rattle.adi.specs.Descriptor.{contents_number, contents_from, contents_of, contents_rules, no_descriptor, descriptor_rules, descriptor_of, read_descriptor, told_descriptor}
 use Rattle.wire.specs.Answer.{refuse}
 use Rattle.std.specs.Prelude.{Ok}
 
 pub read_descriptor_first : (s : List ℕ) → FirstInOrder (descriptor_rules s) (told_descriptor (read_descriptor s)).number
 unfolding read_descriptor
-read_descriptor_first s = answer_first refuse (Ok (descriptor_of s)) (λ x. (told_descriptor x).number) (λ n. refl) (descriptor_rules s) tt refl
+read_descriptor_first s = named_first refuse (Ok (descriptor_of s)) (λ x. (told_descriptor x).number) (λ n. refl) (descriptor_rules s) tt refl
 
 -- the rule in its two parts, as the code asks them
 pub in_parts : (s : List ℕ) → pick (no_descriptor s) 84 (first (contents_rules (contents_of s))) ≡ first (descriptor_rules s)

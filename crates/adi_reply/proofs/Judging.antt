@@ -14,25 +14,31 @@ use Rattle.std.specs.Prelude.{sum}
 use Rattle.std.specs.List.{list_any}
 use Rattle.std.proofs.lemmas.List.Sums.{sum_by-cons}
 use Rattle.wire.specs.InTurn.{in_turn}
-use Rattle.wire.specs.Refusal.{pick, first, numbered}
+use Rattle.wire.specs.Refusal.{pick, first, numbered, named}
 use Rattle.wire.proofs.Bools.{or_neither}
-use Rattle.wire.proofs.InTurn.{in_turn_numbered}
-use Rattle.wire.proofs.Rules.{none_first}
+use Rattle.wire.proofs.InTurn.{in_turn_named}
+use Rattle.wire.proofs.Rules.{none_first, named_numbered}
 use Rattle.adi.specs.Groups.{starts, groups, at_place}
 use Rattle.adi_reply.specs.Layout.{typed, registers_of, groups_of}
 use Rattle.adi_reply.specs.Reading.{not4to245, not_even_from2, four_bytes, group_rules, body_rules, reply_rules, registers_at}
 use Rattle.adi_reply.specs.Writing.{total, count_for, bad_number, length_rules, judge_rules}
 
--- ---- every rule has a number
-body_numbered : (b : Bool) (s : List ℕ) → T (numbered (body_rules b s))
-body_numbered true s = tt
-body_numbered false s = in_turn_numbered group_rules (λ g. tt) (groups_of s)
+-- ---- every rule has a refusal's number
+body_named : (b : Bool) (s : List ℕ) → T (named (body_rules b s))
+body_named true s = tt
+body_named false s = in_turn_named group_rules (λ g. tt) (groups_of s)
+
+pub reply_named : (s : List ℕ) → T (named (reply_rules s))
+reply_named s = body_named (four_bytes s) s
 
 pub reply_numbered : (s : List ℕ) → T (numbered (reply_rules s))
-reply_numbered s = body_numbered (four_bytes s) s
+reply_numbered s = named_numbered (reply_rules s) (reply_named s)
+
+pub judge_named : (ns registers : List ℕ) → T (named (judge_rules ns registers))
+judge_named ns registers = in_turn_named length_rules (λ n. tt) ns
 
 pub judge_numbered : (ns registers : List ℕ) → T (numbered (judge_rules ns registers))
-judge_numbered ns registers = in_turn_numbered length_rules (λ n. tt) ns
+judge_numbered ns registers = named_numbered (judge_rules ns registers) (judge_named ns registers)
 
 -- ---- the lengths: their sum, and whether one is faulty
 pub total_is : (ns : List ℕ) → total ns ≡ sum ns

@@ -68,6 +68,7 @@ fn judge_group(group: &[u8]) -> Result<(), Refusal>
 }
 
 // Group by group, the first faulty one decides; where none is faulty, how many they are. A byte that is left over is a group without its type.
+// A `while let` over what is left: a group's own length says where the next begins.
 fn count_groups(body: &[u8]) -> Result<usize, Refusal>
     ensures { result ≡ judged (length (groups typed body.now)) (first (in_turn group_rules (groups typed body.now))) }
 {
@@ -125,7 +126,7 @@ fn registers_after(body: &[u8], k: usize) -> &[u8]
     wire::front(wire::rest(group, 2), wire::byte_at(group, 0) as usize)
 }
 
-// The register bytes of the group at a place; none where there is no such group.
+// The register bytes of the group at a place; none where there is no such group, as `registers_at` of specs has it: no good group has none.
 pub fn registers_at(pdu: &[u8], place: usize) -> &[u8]
     ensures { result.now ≡ registers_at pdu.now place }
 {

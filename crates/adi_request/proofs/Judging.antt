@@ -10,9 +10,10 @@ use lib.ListN.{length, get_or, drop, drop_of_length-le, length-drop, length-map}
 use lib.Seq.{drop-drop}
 use borrow.Author.Tests.{eqb-true, eqb-false, ltb-true, ltb-false, eq-eqb, lt-ltb, le-ltb, not-false}
 use Rattle.std.specs.Prelude.{None, Some, Result, Ok, Err}
-use Rattle.wire.specs.Refusal.{first, numbered}
+use Rattle.wire.specs.Refusal.{first, numbered, named}
 use Rattle.wire.proofs.Bools.{or_neither}
-use Rattle.wire.proofs.InTurn.{in_turn_numbered, turn_passes, turn_decides}
+use Rattle.wire.proofs.InTurn.{in_turn_named, turn_passes, turn_decides}
+use Rattle.wire.proofs.Rules.{named_numbered}
 use Rattle.wire.proofs.Answer.{none_judged}
 use Rattle.wire.specs.Answer.{judged}
 use Rattle.wire.specs.InTurn.{in_turn}
@@ -79,11 +80,17 @@ module _ (s : List ℕ) (e : bad_count s ≡ false) where
       let whole : length (body_of s) ≡ length (body_of s) / 7 * 7 = omega (arith, body_sevens.whole) in
       count_of_size 6 (length (body_of s) / 7) (body_of s) whole
 
+pub request_named : (s : List ℕ) → T (named (request_rules s))
+request_named s = in_turn_named group_rules (λ g. tt) (groups_of s)
+
 pub request_numbered : (s : List ℕ) → T (numbered (request_rules s))
-request_numbered s = in_turn_numbered group_rules (λ g. tt) (groups_of s)
+request_numbered s = named_numbered (request_rules s) (request_named s)
+
+pub judge_named : (asks : List Asked) → T (named (judge_rules asks))
+judge_named asks = in_turn_named asked_rules (λ a. tt) asks
 
 pub judge_numbered : (asks : List Asked) → T (numbered (judge_rules asks))
-judge_numbered asks = in_turn_numbered asked_rules (λ a. tt) asks
+judge_numbered asks = named_numbered (judge_rules asks) (judge_named asks)
 
 -- as the code counts them
 pub groups_counted : (s : List ℕ) (n : ℕ) → bad_count s ≡ false → n ≡ count_of s → n / 7 ≡ length (groups_of s)

@@ -75,6 +75,7 @@ fn bad_count(pdu: &[u8]) -> bool
     adi::head::other_count(pdu) | not_sevens(wire::byte_at(pdu, 1))
 }
 
+// Of bytes whose type has been judged: a From would be asked for any.
 fn asked_of(group: &[u8; 7]) -> Asked
     ensures { result ≡ asked_of group.now }
 {

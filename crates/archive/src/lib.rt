@@ -20,7 +20,7 @@ pub enum Source {
     Archive(ArchiveKind),
 }
 
-// A number that is none of the four is the last kind: it answers every number, as its clause says, which a TryFrom would not.
+// A number that is none of the four is the last kind, as `type_from` of specs has it; a From would promise that no number is lost.
 pub fn type_from(number: u16) -> ArchiveKind
     ensures { result ≡ type_from number }
 {
@@ -40,6 +40,7 @@ impl From<ArchiveKind> for u8 {
     }
 }
 
+// Of any number too, as `source_from` of specs has it.
 pub fn source_from(number: u8) -> Source
     ensures { result ≡ source_from number }
 {

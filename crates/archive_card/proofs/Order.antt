@@ -7,7 +7,7 @@ use Rattle.std.specs.Prelude.{Ok}
 use Rattle.wire.specs.Answer.{refuse}
 use Rattle.wire.specs.Refusal.{first, FirstInOrder}
 use Rattle.wire.specs.Writes.{Written, Writes, told_written}
-use Rattle.wire.proofs.Answer.{told_number, answer_first}
+use Rattle.wire.proofs.Answer.{told_number, named_first}
 use Rattle.wire.proofs.Writes.{written_first}
 use Rattle.card.specs.declared.Card.{Card}
 use Rattle.archive_card.specs.Layout.{archive_bytes, archive_card_of}
@@ -21,7 +21,7 @@ read_told s = told_number refuse (Ok (archive_card_of s)) (λ x. (told_archive_c
 
 pub read_first : (s : List ℕ) → FirstInOrder (archive_rules s) (told_archive_card_read (read_archive_card s)).number
 unfolding read_archive_card
-read_first s = answer_first refuse (Ok (archive_card_of s)) (λ x. (told_archive_card_read x).number) (λ n. refl) (archive_rules s) tt refl
+read_first s = named_first refuse (Ok (archive_card_of s)) (λ x. (told_archive_card_read x).number) (λ n. refl) (archive_rules s) tt refl
 
 pub write_first : (c : Card) (kind : ℕ) (out : List ℕ) (r : Written) (out' : List ℕ) → Writes (first (archive_write_rules c kind out)) (archive_bytes c kind) out r out'
     → FirstInOrder (archive_write_rules c kind out) (told_written r).number

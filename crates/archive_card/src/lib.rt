@@ -17,6 +17,7 @@ use card::forms::CardForm;
 use card::{Card, fields, forms};
 use wire::{Refusal, Written};
 
+// A form's own layout, written out: the widths of every form are its first ten, and a constant cannot be made of another's.
 static WIDTHS: [u8; 12] = [27, 5, 7, 4, 5, 5, 6, 6, 2, 64, 3, 10];
 
 #[derive(Clone, Copy, Debug, PartialEq, Eq)]
@@ -64,6 +65,7 @@ fn judge_archive(kind: u8) -> Result<(), Refusal>
     Ok(())
 }
 
+// Of fields and a kind that were judged.
 fn archive_card_from(f: Fields, kind: u8) -> ArchiveCard
     ensures { result ≡ archive_card_from f kind }
 {
@@ -82,7 +84,7 @@ pub fn read_archive_card(bytes: &[u8]) -> Result<ArchiveCard, Refusal>
     Ok(archive_card_from(f, kind))
 }
 
-// The archive kind by its number, 0 for a current reading.
+// The archive kind by its number, 0 for a current reading: 56 refuses numbers above 4, which no `Source` has.
 pub fn write_archive_card(card: Card, kind: u8, out: &mut [u8]) -> Written
     ensures { Writes (first (archive_write_rules card kind out.old)) (archive_bytes card kind) out.old result out.new }
 {

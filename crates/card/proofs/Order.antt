@@ -7,7 +7,7 @@ use Rattle.wire.specs.Refusal.{first, FirstInOrder}
 use Rattle.std.specs.Prelude.{Ok}
 use Rattle.wire.specs.Answer.{refuse}
 use Rattle.wire.specs.Writes.{Written, Writes, told_written}
-use Rattle.wire.proofs.Answer.{told_number, answer_first}
+use Rattle.wire.proofs.Answer.{told_number, named_first}
 use Rattle.wire.proofs.Rules.{in_order}
 use Rattle.wire.proofs.Writes.{written_first}
 use Rattle.card.specs.Layout.{card_bytes, card_of}
@@ -25,7 +25,7 @@ read_told s = told_number refuse (Ok (card_of s)) (λ x. (told_card_read x).numb
 
 pub read_first : (s : List ℕ) → FirstInOrder (read_rules s) (told_card_read (read_card s)).number
 unfolding read_card
-read_first s = answer_first refuse (Ok (card_of s)) (λ x. (told_card_read x).number) (λ n. refl) (read_rules s) tt refl
+read_first s = named_first refuse (Ok (card_of s)) (λ x. (told_card_read x).number) (λ n. refl) (read_rules s) tt refl
 
 pub write_first : (c : Card) (out : List ℕ) (r : Written) (out' : List ℕ) → Writes (first (write_rules c out)) (card_bytes c) out r out'
     → FirstInOrder (write_rules c out) (told_written r).number

@@ -126,7 +126,7 @@ pub fn other_length(bytes: &[u8], size: usize) -> bool
     bytes.len() != size
 }
 
-// The first rule that the ten fields are refused by.
+// The first rule that the ten fields are refused by. Address and time are judged as in `judge_card`, but before another third rule.
 pub fn judge_fields(f: Fields) -> Result<(), Refusal>
     ensures { result ≡ judged tt (first (field_rules f)) }
 {
@@ -144,6 +144,7 @@ pub fn judge_fields(f: Fields) -> Result<(), Refusal>
     Ok(())
 }
 
+// Of fields that were judged: a From would be asked for any.
 pub fn card_from(f: Fields) -> Card
     ensures { result ≡ card_from f }
 {

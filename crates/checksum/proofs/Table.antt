@@ -1,12 +1,12 @@
 -- Four bits at once: the table's rule at each entry, and the step by it of any remainder.
 -- Assumes nothing.
-use mathlib.Core.Path.{◌≡◌, refl, sym, ap, ap₂, ◌∙◌}
+use mathlib.Core.Path.{◌≡◌, sym, ap, ap₂, ◌∙◌}
 use mathlib.Core.List.{List}
 use Prim.Native.Nat.{ℕ, zero, suc, ◌+◌, ◌/◌, ◌%◌, ◌<◌}
 use native.Mathlib.Omega.{arith}
 use native.Mathlib.Nat.{add-zero, zero-add}
 use lib.Bits.{bit_xor}
-use lib.ListN.{length, get_or}
+use lib.ListN.{get_or}
 use Rattle.checksum.specs.Crc.{crc_bits}
 use Rattle.checksum.specs.Table.{entries, fours}
 use Rattle.checksum.proofs.Remainder.{bits_at_once}
@@ -18,10 +18,6 @@ entry f (suc n) k zero h = ap f (sym (add-zero k))
 entry f (suc n) k (suc j) h =
     let e : suc k + j ≡ k + suc j = omega arith in
     entry f n (suc k) j (omega arith) ∙ ap f e
-
-pub fours_size : (poly : ℕ) → length (fours poly) ≡ 16
-unfolding fours
-fours_size poly = refl
 
 -- four bits of any remainder: the entry at its lowest four, and the others moved down
 pub four_at_once : (poly : ℕ) (table : List ℕ) (k c : ℕ) → table ≡ fours poly → k ≡ c % 16 → bit_xor (c / 16) (get_or table k 0) ≡ crc_bits poly 4 c

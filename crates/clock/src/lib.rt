@@ -56,7 +56,7 @@ fn seconds_since_2000(d: DateTime) -> u64
     days * 86400 + d.hour as u64 * 3600 + d.minute as u64 * 60 + d.second as u64
 }
 
-// No date is no real one either.
+// Both are rules of their own, each with its number. No date is no real one either.
 fn bad_meter(meter: DateTime) -> bool
     ensures { result ≡ bad_meter meter }
 {

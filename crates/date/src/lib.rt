@@ -88,6 +88,7 @@ const NO_DATE: DateTime = DateTime {
     second: 255,
 };
 
+// An equality, under the name that the rules use.
 pub fn is_no_date(d: DateTime) -> bool
     ensures { result ≡ is_no_date d }
 {

@@ -7,7 +7,7 @@ use lib.ListN.{length}
 use Rattle.wire.specs.Refusal.{FirstInOrder}
 use Rattle.wire.specs.Writes.{Written, told_written}
 use Rattle.wire.specs.Answer.{refuse}
-use Rattle.wire.proofs.Answer.{answer_first}
+use Rattle.wire.proofs.Answer.{named_first}
 use Rattle.wire.proofs.Writes.{written_first}
 use Rattle.modbus.specs.Envelope.{Message, Envelope, bytes_of, said_by, write_rules, WritesEnvelope}
 use Rattle.modbus.specs.Rtu.{rtu, rtu_rules, found_rtu, read_rtu, told_rtu_read}
@@ -15,11 +15,11 @@ use Rattle.modbus.specs.Tcp.{transaction_of, tcp_rules, tcp_said, found_tcp, rea
 
 pub rtu_first : (s : List ℕ) → FirstInOrder (rtu_rules s) (told_rtu_read (read_rtu s)).number
 unfolding read_rtu
-rtu_first s = answer_first refuse (found_rtu (said_by rtu s)) (λ r. (told_rtu_read r).number) (λ n. refl) (rtu_rules s) tt refl
+rtu_first s = named_first refuse (found_rtu (said_by rtu s)) (λ r. (told_rtu_read r).number) (λ n. refl) (rtu_rules s) tt refl
 
 pub tcp_first : (s : List ℕ) → FirstInOrder (tcp_rules s) (told_tcp_read (read_tcp s)).number
 unfolding read_tcp
-tcp_first s = answer_first refuse (found_tcp (transaction_of s) (tcp_said s)) (λ r. (told_tcp_read r).number) (λ n. refl) (tcp_rules s) tt refl
+tcp_first s = named_first refuse (found_tcp (transaction_of s) (tcp_said s)) (λ r. (told_tcp_read r).number) (λ n. refl) (tcp_rules s) tt refl
 
 -- any writer of any envelope
 pub envelope_first : (e : Envelope) (m : Message) (out : List ℕ) (r : Written) (out' : List ℕ) → WritesEnvelope e m out r out'

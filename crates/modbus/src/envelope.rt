@@ -27,7 +27,7 @@ impl Message<'_> {
     }
 }
 
-// What stands after so many bytes and before so many.
+// What stands after so many bytes and before so many: each envelope names its parts by it.
 pub fn between(bytes: &[u8], before: usize, after: usize) -> &[u8]
     ensures { result.now ≡ take (length bytes.now - (before + after)) (drop before bytes.now) }
 {

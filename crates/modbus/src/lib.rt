@@ -92,7 +92,7 @@ impl Envelope for InRtu {
     }
 }
 
-// The envelope, over the front of out.
+// The envelope, over the front of out. The message comes by its fields, as a host has them, and so in the other two.
 pub fn write_rtu(address: u8, function: u8, data: &[u8], out: &mut [u8]) -> Written
     ensures { WritesEnvelope rtu (message address function «data».now) out.old result out.new }
 {

@@ -12,13 +12,13 @@ use borrow.Author.Tests.{eqb-true, ltb-false, le-ltb}
 use Rattle.wire.specs.Numbers.{over}
 use Rattle.wire.specs.Answer.{refuse}
 use Rattle.wire.specs.Numbered.{number_of, refusal}
-use Rattle.wire.specs.Refusal.{Rule, pick, first, NoneHolds, numbered, FirstInOrder}
+use Rattle.wire.specs.Refusal.{Rule, pick, first, NoneHolds, numbered, named, FirstInOrder}
 use Rattle.wire.specs.declared.refusals.Refusal.{Refusal}
 use Rattle.std.specs.Prelude.{Option, None, Some, Result, Ok, Err}
 use Rattle.wire.specs.Writes.{Written, Writes}
-use Rattle.wire.proofs.Answer.{accepted_as, answer_first}
+use Rattle.wire.proofs.Answer.{accepted_as, named_first}
 use Rattle.wire.proofs.Bools.{or_neither, neither_or}
-use Rattle.wire.proofs.Rules.{first_none, none_first, numbered_append, none_append, none_both, in_order, first_numbered}
+use Rattle.wire.proofs.Rules.{first_none, none_first, numbered_append, named_append, none_append, none_both, in_order, first_named}
 use Rattle.wire.proofs.Writes.{wrote_front, wrote_all}
 use Rattle.reading.specs.Values.{bad_width}
 use Rattle.pulsar_body.specs.Body.{bad_values, body_rules, reading_rules, reading_answer, values_rules, room_rules}
@@ -29,6 +29,11 @@ use Rattle.pulsar_body.specs.declared.Values.{Values}
 pub numbered_writing : (due : Values) (width mask : ℕ) (vs : List ℕ) (faults : List Rule) (needed room : ℕ) → T (numbered faults)
     → T (numbered (values_rules due width mask vs ++ faults ++ room_rules needed room))
 numbered_writing due width mask vs faults needed room t = numbered_append faults (room_rules needed room) t tt
+
+-- and each has a refusal's
+pub named_writing : (due : Values) (width mask : ℕ) (vs : List ℕ) (faults : List Rule) (needed room : ℕ) → T (named faults)
+    → T (named (values_rules due width mask vs ++ faults ++ room_rules needed room))
+named_writing due width mask vs faults needed room t = named_append faults (room_rules needed room) t tt
 
 -- what is not refused has room
 pub writing_fits : (due : Values) (width mask : ℕ) (vs : List ℕ) (faults : List Rule) (needed room : ℕ) → T (numbered faults)
@@ -104,15 +109,15 @@ module _ {F A : Type 0} (form_of : F → Form) (fields : F → List Rule) (says 
   some true z = absurd (omega arith)
   some false z = absurd (omega arith)
 
-  pub reading_first : (told : Result A Refusal → ℕ) → ((e : Refusal) → told (Err e) ≡ number_of e) → ((a : A) → told (Ok a) ≡ 0) → ((f : F) → T (numbered (fields f)))
+  pub reading_first : (told : Result A Refusal → ℕ) → ((e : Refusal) → told (Err e) ≡ number_of e) → ((a : A) → told (Ok a) ≡ 0) → ((f : F) → T (named (fields f)))
       → (function : Option F) → FirstInOrder (reading_rules form_of fields function width mask s) (told (reading_answer form_of fields says function width mask s))
   unfolding pick
   reading_first told err ok t None =
       let rules = body_rules None width mask s in
-      in_order rules _ tt (sym (err (refusal (first rules)) ∙ first_numbered rules tt (some (bad_width width))))
+      in_order rules _ tt (sym (err (refusal (first rules)) ∙ first_named rules tt (some (bad_width width))))
   reading_first told err ok t (Some f) =
       let lengths = body_rules (Some (form_of f)) width mask s in
-      answer_first refuse (Ok (says f)) told (λ n. err (refusal n)) (lengths ++ fields f) (numbered_append lengths (fields f) tt (t f)) (ok (says f))
+      named_first refuse (Ok (says f)) told (λ n. err (refusal n)) (lengths ++ fields f) (named_append lengths (fields f) tt (t f)) (ok (says f))
 
 -- ---- a known function has the number from which it was read: by the cases of the reading
 module _ {F : Type 0} (number : F → ℕ) (n : ℕ) where

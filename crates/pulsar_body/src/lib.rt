@@ -45,6 +45,15 @@ pub trait Formed {
         ensures { result ≡ the_form self };
 }
 
+// A form itself, for who has no function that has it.
+impl Formed for Form {
+    ghost the_form = { λ form. form };
+
+    fn form(self) -> Form {
+        self
+    }
+}
+
 // A request or a reply, to be written: the bytes of its head, and the rules of its fields. These may ask the mask of the values that are
 // written with it.
 pub trait Body: Formed + Copy {
@@ -176,6 +185,7 @@ impl Form {
     }
 }
 
+// Width, mask and bytes are told apart: the promises of readers and writers name each, and a writer's mask is that of its request.
 // Reading, before the fields: 1, 10 of no function, 11. Where none holds, the function's fields are to be judged.
 pub fn body_fault<F: Formed + Copy>(
     function: Option<F>,

@@ -11,14 +11,14 @@ use lib.ListN.{length, take, drop, get_or}
 use borrow.Author.Tests.{eqb-true, not-false}
 use Rattle.wire.specs.Each.{Bytes}
 use Rattle.wire.specs.Numbers.{le, field, over}
-use Rattle.wire.specs.Refusal.{first, NoneHolds, numbered, FirstInOrder}
+use Rattle.wire.specs.Refusal.{first, NoneHolds, named, FirstInOrder}
 use Rattle.std.specs.Prelude.{Option, None, Some, Result, Ok}
 use Rattle.wire.specs.declared.refusals.Refusal.{Refusal}
 use Rattle.wire.specs.Writes.{Written, Writes, told_written}
 use Rattle.wire.proofs.Bools.{or_neither}
 use Rattle.wire.proofs.Fields.{field_at, field_take, field_append, number_at, number_again}
 use Rattle.wire.proofs.Numbers.{length_le}
-use Rattle.wire.proofs.Rules.{first_none, none_first, none_append, none_both}
+use Rattle.wire.proofs.Rules.{first_none, none_first, none_append, none_both, named_numbered}
 use Rattle.wire.proofs.Answer.{judged_none}
 use Rattle.wire.proofs.Writes.{written_first}
 use Rattle.date.specs.Date.{date_bytes, date_of, is_date, is_no_date, no_date}
@@ -26,7 +26,7 @@ use Rattle.date.specs.declared.DateTime.{DateTime}
 use Rattle.date.proofs.Laws.{date_writes_again, date_some, no_date_lem, no_date_is, no_date_bytes}
 use Rattle.pulsar_body.specs.Fields.{mask_of, date_in, not_one, not_date}
 use Rattle.pulsar_body.specs.Body.{bad_values, body_rules, reading_answer}
-use Rattle.pulsar_body.proofs.RoundTrip.{numbered_writing, body_back, head_within, body_again, reading_accepts, reading_first, number_kept}
+use Rattle.pulsar_body.proofs.RoundTrip.{named_writing, body_back, head_within, body_again, reading_accepts, reading_first, number_kept}
 use Rattle.pulsar_reply.specs.Layout.{function_from, function_of, function_number, head_bytes, archive_bytes, reply_bytes, head_length, values_after, form_of, first_of, clock_of, reply_of, values_of}
 use Rattle.pulsar_reply.specs.Fields.{not_clock, not_zero}
 use Rattle.pulsar_reply.specs.Reading.{field_rules, reply_rules, read_reply, told_reply}
@@ -36,7 +36,7 @@ use Rattle.pulsar_reply.specs.declared.Reply.{Reply}
 use Rattle.pulsar_reply.specs.declared.Reply.TheVariants as P
 use Rattle.pulsar_reply.specs.declared.Function.{Function}
 use Rattle.pulsar_reply.specs.declared.Function.TheVariants as F
-use Rattle.pulsar_reply.specs.Heads.{length_head, numbered_faults}
+use Rattle.pulsar_reply.specs.Heads.{length_head, named_faults}
 use Rattle.pulsar_body_laws.specs.Sized.{SizedReply}
 
 -- ---- what is written reads back
@@ -108,7 +108,7 @@ reply_reads_back q width mask vs out out' n sized w =
     let f = function_of q in
     let s = reply_bytes q vs in
     let known = known_back q in
-    let o = body_back (form_of f) width mask mask (head_bytes q) vs (field_faults q mask) out out' n refl (length_head q) (numbered_faults q mask) w in
+    let o = body_back (form_of f) width mask mask (head_bytes q) vs (field_faults q mask) out out' n refl (length_head q) (named_numbered (field_faults q mask) (named_faults q mask)) w in
     let b = back q vs mask sized o.3 in
     let accepts = first_none (reply_rules (Some f) width mask s) (none_both (body_rules (Some (form_of f)) width mask s) (field_rules f mask s) o.2 b.rules) in
     let reads : read_reply (function_number f) width mask s ≡ Ok q =
@@ -194,15 +194,15 @@ module _ (s : List ℕ) (bytes : Bytes s) (mask : ℕ) where
   again F.Parameter h n = record { same = refl; head = refl; faults = tt }
   again F.ParameterWritten h n = written_again h n
 
-numbered_reading : (f : Function) (mask : ℕ) (s : List ℕ) → T (numbered (field_rules f mask s))
-numbered_reading F.Error mask s = tt
-numbered_reading F.Channels mask s = tt
-numbered_reading F.ChannelsWritten mask s = tt
-numbered_reading F.Clock mask s = tt
-numbered_reading F.ClockSet mask s = tt
-numbered_reading F.Archive mask s = tt
-numbered_reading F.Parameter mask s = tt
-numbered_reading F.ParameterWritten mask s = tt
+named_reading : (f : Function) (mask : ℕ) (s : List ℕ) → T (named (field_rules f mask s))
+named_reading F.Error mask s = tt
+named_reading F.Channels mask s = tt
+named_reading F.ChannelsWritten mask s = tt
+named_reading F.Clock mask s = tt
+named_reading F.ClockSet mask s = tt
+named_reading F.Archive mask s = tt
+named_reading F.Parameter mask s = tt
+named_reading F.ParameterWritten mask s = tt
 
 -- a known function keeps its number
 kept : (n : ℕ) (h : Function) → function_from n ≡ Some h → function_number h ≡ n
@@ -224,7 +224,7 @@ module _ (number width mask : ℕ) (s : List ℕ) (bytes : Bytes s) (out : List 
       → (function_number (function_of q) ≡ number) × (r ≡ Ok (length s)) × (out' ≡ over out s)
   said_again f known none q e w =
       let lengths = body_rules (Some (form_of f)) width mask s in
-      let parts = none_append lengths (field_rules f mask s) (none_first (reply_rules (Some f) width mask s) (numbered_reading f mask s) none) in
+      let parts = none_append lengths (field_rules f mask s) (none_first (reply_rules (Some f) width mask s) (named_numbered (reply_rules (Some f) width mask s) (named_reading f mask s)) none) in
       let whole = head_within (form_of f) width mask s parts.0 in
       let a = subst (λ (p : Reply). Again f p mask s) e (again s bytes mask f whole parts.1) in
       let values : values_of q s ≡ drop (head_length f) s = ap (λ (g : Function). drop (head_length g) s) a.same in
@@ -247,12 +247,12 @@ pub read_reply_first : (number width mask : ℕ) (s : List ℕ)
     → FirstInOrder (reply_rules (function_from number) width mask s) (told_reply (read_reply number width mask s)).number
 unfolding read_reply
 read_reply_first number width mask s =
-    reading_first form_of (λ (f : Function). field_rules f mask s) (λ (f : Function). reply_of f s) width mask s (λ (x : Result Reply Refusal). (told_reply x).number) (λ e. refl) (λ q. refl) (λ f. numbered_reading f mask s) (function_from number)
+    reading_first form_of (λ (f : Function). field_rules f mask s) (λ (f : Function). reply_of f s) width mask s (λ (x : Result Reply Refusal). (told_reply x).number) (λ e. refl) (λ q. refl) (λ f. named_reading f mask s) (function_from number)
 
 pub write_reply_first : (q : Reply) (width mask : ℕ) (vs out : List ℕ) (r : Written) (out' : List ℕ)
     → Writes (first (writing_rules q width mask vs (length out))) (reply_bytes q vs) out r out'
     → FirstInOrder (writing_rules q width mask vs (length out)) (told_written r).number
 write_reply_first q width mask vs out r out' w =
     let bs = reply_bytes q vs in
-    let numbers = numbered_writing (values_after (function_of q)) width mask vs (field_faults q mask) (length bs) (length out) (numbered_faults q mask) in
+    let numbers = named_writing (values_after (function_of q)) width mask vs (field_faults q mask) (length bs) (length out) (named_faults q mask) in
     written_first (writing_rules q width mask vs (length out)) bs out r out' numbers w

@@ -11,14 +11,14 @@ use lib.ListN.{length, take, drop, length-append}
 use borrow.Author.Tests.{eqb-false, ltb-false}
 use Rattle.wire.specs.Each.{Bytes}
 use Rattle.wire.specs.Numbers.{le, of_le, field, over}
-use Rattle.wire.specs.Refusal.{first, NoneHolds, numbered, FirstInOrder}
+use Rattle.wire.specs.Refusal.{first, NoneHolds, named, FirstInOrder}
 use Rattle.std.specs.Prelude.{Option, None, Some, Result, Ok}
 use Rattle.wire.specs.declared.refusals.Refusal.{Refusal}
 use Rattle.wire.specs.Writes.{Written, Writes, told_written}
 use Rattle.wire.proofs.Bools.{or_neither}
 use Rattle.wire.proofs.Fields.{field_at, field_take, field_append, number_at, number_again}
 use Rattle.wire.proofs.Numbers.{length_le}
-use Rattle.wire.proofs.Rules.{first_none, none_first, none_append, none_both}
+use Rattle.wire.proofs.Rules.{first_none, none_first, none_append, none_both, named_numbered}
 use Rattle.wire.proofs.Answer.{judged_none}
 use Rattle.wire.proofs.Writes.{written_first}
 use Rattle.archive.specs.Archive.{type_number, type_from}
@@ -31,7 +31,7 @@ use Rattle.date.proofs.Laws.{date_writes_again}
 use Rattle.pulsar_body.specs.Fields.{mask_of, date_in, no_channel, not_one, not_date}
 use Rattle.pulsar_body.specs.Body.{bad_values, body_rules, reading_answer}
 use Rattle.pulsar_body.specs.declared.Values.TheVariants.{Channels}
-use Rattle.pulsar_body.proofs.RoundTrip.{numbered_writing, body_back, head_within, body_again, reading_accepts, reading_first, number_kept}
+use Rattle.pulsar_body.proofs.RoundTrip.{named_writing, body_back, head_within, body_again, reading_accepts, reading_first, number_kept}
 use Rattle.pulsar_request.specs.Layout.{function_from, function_of, function_number, head_bytes, archive_bytes, request_bytes, head_length, values_after, form_of, values_mask, type_of, first_of, last_of, index_of, request_of, values_of}
 use Rattle.pulsar_request.specs.Reading.{bad_type, field_rules, request_rules, read_request, told_request}
 use Rattle.pulsar_request.specs.Writing.{field_faults, writing_rules}
@@ -40,7 +40,7 @@ use Rattle.pulsar_request.specs.declared.Request.{Request}
 use Rattle.pulsar_request.specs.declared.Request.TheVariants as Q
 use Rattle.pulsar_request.specs.declared.Function.{Function}
 use Rattle.pulsar_request.specs.declared.Function.TheVariants as F
-use Rattle.pulsar_request.specs.Heads.{length_head, numbered_faults}
+use Rattle.pulsar_request.specs.Heads.{length_head, named_faults}
 use Rattle.pulsar_body_laws.specs.Sized.{SizedRequest}
 
 -- ---- what is written reads back
@@ -129,7 +129,7 @@ request_reads_back q width vs out out' n sized w =
     let s = request_bytes q vs in
     let b = back q vs sized in
     let known = known_back q in
-    let o = body_back (form_of f) width (values_mask q) (mask_of s) (head_bytes q) vs (field_faults q) out out' n (b.count width vs) (length_head q) (numbered_faults q) w in
+    let o = body_back (form_of f) width (values_mask q) (mask_of s) (head_bytes q) vs (field_faults q) out out' n (b.count width vs) (length_head q) (named_numbered (field_faults q) (named_faults q)) w in
     let accepts = first_none (request_rules (Some f) width s) (none_both (body_rules (Some (form_of f)) width (mask_of s) s) (field_rules f s) o.2 (b.rules o.3)) in
     let reads : read_request (function_number f) width s ≡ Ok q =
     ap (λ (g : Option Function). reading_answer form_of (λ (f : Function). field_rules f s) (λ (f : Function). request_of f s) g width (mask_of s) s) known
@@ -185,14 +185,14 @@ module _ (s : List ℕ) (bytes : Bytes s) where
   again F.ReadParameter h n = record { same = refl; head = number_front 2 h; faults = tt; count = λ width values. refl }
   again F.WriteParameter h n = record { same = refl; head = number_front 2 h; faults = tt; count = λ width values. refl }
 
-numbered_reading : (f : Function) (s : List ℕ) → T (numbered (field_rules f s))
-numbered_reading F.ReadChannels s = tt
-numbered_reading F.WriteChannels s = tt
-numbered_reading F.ReadClock s = tt
-numbered_reading F.SetClock s = tt
-numbered_reading F.ReadArchive s = tt
-numbered_reading F.ReadParameter s = tt
-numbered_reading F.WriteParameter s = tt
+named_reading : (f : Function) (s : List ℕ) → T (named (field_rules f s))
+named_reading F.ReadChannels s = tt
+named_reading F.WriteChannels s = tt
+named_reading F.ReadClock s = tt
+named_reading F.SetClock s = tt
+named_reading F.ReadArchive s = tt
+named_reading F.ReadParameter s = tt
+named_reading F.WriteParameter s = tt
 
 -- a known function keeps its number
 kept : (n : ℕ) (h : Function) → function_from n ≡ Some h → function_number h ≡ n
@@ -213,7 +213,7 @@ module _ (number width : ℕ) (s : List ℕ) (bytes : Bytes s) (out : List ℕ) 
       → (function_number (function_of q) ≡ number) × (r ≡ Ok (length s)) × (out' ≡ over out s)
   said_again f known none q e w =
       let lengths = body_rules (Some (form_of f)) width (mask_of s) s in
-      let parts = none_append lengths (field_rules f s) (none_first (request_rules (Some f) width s) (numbered_reading f s) none) in
+      let parts = none_append lengths (field_rules f s) (none_first (request_rules (Some f) width s) (named_numbered (request_rules (Some f) width s) (named_reading f s)) none) in
       let whole = head_within (form_of f) width (mask_of s) s parts.0 in
       let a = subst (λ (p : Request). Again f p s) e (again s bytes f whole parts.1) in
       let values : values_of q s ≡ drop (head_length f) s = ap (λ (g : Function). drop (head_length g) s) a.same in
@@ -235,12 +235,12 @@ pub read_request_first : (number width : ℕ) (s : List ℕ)
     → FirstInOrder (request_rules (function_from number) width s) (told_request (read_request number width s)).number
 unfolding read_request
 read_request_first number width s =
-    reading_first form_of (λ (f : Function). field_rules f s) (λ (f : Function). request_of f s) width (mask_of s) s (λ (x : Result Request Refusal). (told_request x).number) (λ e. refl) (λ q. refl) (λ f. numbered_reading f s) (function_from number)
+    reading_first form_of (λ (f : Function). field_rules f s) (λ (f : Function). request_of f s) width (mask_of s) s (λ (x : Result Request Refusal). (told_request x).number) (λ e. refl) (λ q. refl) (λ f. named_reading f s) (function_from number)
 
 pub write_request_first : (q : Request) (width : ℕ) (vs out : List ℕ) (r : Written) (out' : List ℕ)
     → Writes (first (writing_rules q width vs (length out))) (request_bytes q vs) out r out'
     → FirstInOrder (writing_rules q width vs (length out)) (told_written r).number
 write_request_first q width vs out r out' w =
     let bs = request_bytes q vs in
-    let numbers = numbered_writing (values_after (function_of q)) width (values_mask q) vs (field_faults q) (length bs) (length out) (numbered_faults q) in
+    let numbers = named_writing (values_after (function_of q)) width (values_mask q) vs (field_faults q) (length bs) (length out) (named_faults q) in
     written_first (writing_rules q width vs (length out)) bs out r out' numbers w

@@ -34,7 +34,7 @@ pub enum Fault {
     Refused(Refusal),
 }
 
-// How many bytes lack of the frame that these begin, LEN less their count. 0 where all came, and where LEN is not known yet.
+// How many bytes lack of the frame that these begin, LEN less their count. 0 where all came, and where LEN is not known yet, as the paper has it.
 pub fn missing(bytes: &[u8]) -> usize
     ensures { result ≡ missing bytes.now }
 {
@@ -88,7 +88,7 @@ pub fn payload(bytes: &[u8], len: usize) -> &[u8]
     wire::front(wire::rest(bytes, 6), wire::minus(len, 10))
 }
 
-// The master's request, over the front of out.
+// The master's request, over the front of out. Its names come one by one, as `WritesRequest` has them, and so those of a reply.
 pub fn write_request(address: u32, function: u8, id: u16, payload: &[u8], out: &mut [u8]) -> Written
     ensures { WritesRequest address function id payload.now out.old result out.new }
 {

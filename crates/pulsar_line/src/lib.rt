@@ -13,7 +13,7 @@ pub struct Collector {
     pub count: usize,
 }
 
-// What a call answers, and the collector after it.
+// What a call answers, and the collector after it. (A table of turns has the like: one struct for both would stand in a room below them for this alone.)
 #[derive(Clone, Copy, Debug, PartialEq, Eq)]
 pub struct Answered<T> {
     pub answer: Result<T, Refusal>,
@@ -24,7 +24,7 @@ pub type Pushed = Answered<()>;
 
 pub type Silenced = Answered<Handed>;
 
-// What silence hands over: bytes, of which the first `count` were collected, and how many of the frame that they begin lack.
+// What silence hands over, without a heap as well: bytes, of which the first `count` were collected, and how many of the frame that they begin lack.
 #[derive(Clone, Copy, Debug, PartialEq, Eq)]
 pub struct Handed {
     pub bytes: [u8; 255],

@@ -6,7 +6,7 @@ use lib.Dec.{T}
 use lib.ListN.{length, length-append}
 use Prim.Native.Nat.{ℕ, ◌≤◌}
 use native.Mathlib.Omega.{arith}
-use Rattle.wire.specs.Refusal.{numbered}
+use Rattle.wire.specs.Refusal.{named}
 use Rattle.wire.proofs.Numbers.{length_le}
 use Rattle.pulsar_reply.specs.Layout.{function_of, head_bytes, head_length}
 use Rattle.pulsar_reply.specs.Writing.{field_faults}
@@ -36,13 +36,13 @@ head_few F.Archive = omega arith
 head_few F.Parameter = omega arith
 head_few F.ParameterWritten = omega arith
 
-pub numbered_faults : (q : Reply) (mask : ℕ) → T (numbered (field_faults q mask))
-numbered_faults (P.Error n) mask = tt
-numbered_faults P.Channels mask = tt
-numbered_faults (P.ChannelsWritten m) mask = tt
-numbered_faults (P.Clock d) mask = tt
-numbered_faults P.NoClock mask = tt
-numbered_faults (P.ClockSet status) mask = tt
-numbered_faults (P.Archive a) mask = tt
-numbered_faults P.Parameter mask = tt
-numbered_faults P.ParameterWritten mask = tt
+pub named_faults : (q : Reply) (mask : ℕ) → T (named (field_faults q mask))
+named_faults (P.Error n) mask = tt
+named_faults P.Channels mask = tt
+named_faults (P.ChannelsWritten m) mask = tt
+named_faults (P.Clock d) mask = tt
+named_faults P.NoClock mask = tt
+named_faults (P.ClockSet status) mask = tt
+named_faults (P.Archive a) mask = tt
+named_faults P.Parameter mask = tt
+named_faults P.ParameterWritten mask = tt

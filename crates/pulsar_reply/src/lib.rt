@@ -8,11 +8,12 @@ ghost use Rattle.std.specs.Prelude.{◌≡◌, length};
 ghost use Rattle.std.proofs.lemmas.List.Edits.{sets};
 ghost use Rattle.wire.specs.Writes.{Writes};
 ghost use Rattle.wire.proofs.Bools.{T_true};
+ghost use Rattle.wire.proofs.Rules.{named_numbered};
 ghost use Rattle.wire.specs.Refusal.{first};
 ghost use Rattle.pulsar_reply.specs.Layout.{function_from, function_of, function_number, form_of, clock_of, archive_of, reply_of, archive_bytes, head_bytes, reply_bytes, values_of};
 ghost use Rattle.pulsar_reply.specs.Reading.{read_reply};
 ghost use Rattle.pulsar_reply.specs.Writing.{field_faults, writing_rules};
-ghost use Rattle.pulsar_reply.specs.Heads.{head_few, length_head, numbered_faults};
+ghost use Rattle.pulsar_reply.specs.Heads.{head_few, length_head, named_faults};
 
 use date::DateTime;
 use pulsar_body::{Body, Form, Formed, Values};
@@ -155,7 +156,7 @@ impl From<Reply> for Function {
     }
 }
 
-// The function of a reply, as its frame bears it. A From would have to name what the number is of.
+// The function of a reply, as its frame bears it: by From, under the name that hosts call (`reply_function_unique`).
 pub fn reply_function(reply: Reply) -> u8
     ensures { result ≡ function_number (function_of reply) }
 {
@@ -189,7 +190,7 @@ impl Body for Reply {
 
     ghost head = { head_bytes };
 
-    ghost faults_numbered = { λ reply mask. T_true _ (numbered_faults reply mask) };
+    ghost faults_numbered = { λ reply mask. T_true _ (named_numbered (field_faults reply mask) (named_faults reply mask)) };
 
     ghost head_length = { length_head };
 

@@ -6,7 +6,7 @@ use lib.Dec.{T}
 use lib.ListN.{length, length-append}
 use Prim.Native.Nat.{◌≤◌}
 use native.Mathlib.Omega.{arith}
-use Rattle.wire.specs.Refusal.{numbered}
+use Rattle.wire.specs.Refusal.{named}
 use Rattle.wire.proofs.Numbers.{length_le}
 use Rattle.pulsar_request.specs.Layout.{function_of, head_bytes, head_length}
 use Rattle.pulsar_request.specs.Writing.{field_faults}
@@ -33,11 +33,11 @@ head_few F.ReadArchive = omega arith
 head_few F.ReadParameter = omega arith
 head_few F.WriteParameter = omega arith
 
-pub numbered_faults : (q : Request) → T (numbered (field_faults q))
-numbered_faults (Q.ReadChannels mask) = tt
-numbered_faults (Q.WriteChannels mask) = tt
-numbered_faults Q.ReadClock = tt
-numbered_faults (Q.SetClock d) = tt
-numbered_faults (Q.ReadArchive a) = tt
-numbered_faults (Q.ReadParameter index) = tt
-numbered_faults (Q.WriteParameter index) = tt
+pub named_faults : (q : Request) → T (named (field_faults q))
+named_faults (Q.ReadChannels mask) = tt
+named_faults (Q.WriteChannels mask) = tt
+named_faults Q.ReadClock = tt
+named_faults (Q.SetClock d) = tt
+named_faults (Q.ReadArchive a) = tt
+named_faults (Q.ReadParameter index) = tt
+named_faults (Q.WriteParameter index) = tt

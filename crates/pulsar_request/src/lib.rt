@@ -8,11 +8,12 @@ ghost use Rattle.std.specs.Prelude.{◌≡◌, length};
 ghost use Rattle.std.proofs.lemmas.List.Edits.{sets};
 ghost use Rattle.wire.specs.Writes.{Writes};
 ghost use Rattle.wire.proofs.Bools.{T_true};
+ghost use Rattle.wire.proofs.Rules.{named_numbered};
 ghost use Rattle.wire.specs.Refusal.{first};
 ghost use Rattle.pulsar_request.specs.Layout.{function_from, function_of, function_number, form_of, archive_of, request_of, archive_bytes, head_bytes, request_bytes, values_of};
 ghost use Rattle.pulsar_request.specs.Reading.{read_request};
 ghost use Rattle.pulsar_request.specs.Writing.{field_faults, writing_rules};
-ghost use Rattle.pulsar_request.specs.Heads.{head_few, length_head, numbered_faults};
+ghost use Rattle.pulsar_request.specs.Heads.{head_few, length_head, named_faults};
 
 use archive::ArchiveKind;
 use date::DateTime;
@@ -141,7 +142,7 @@ impl From<Request> for Function {
     }
 }
 
-// The function of a request, as its frame bears it. A From would have to name what the number is of.
+// The function of a request, as its frame bears it: by From, under the name that hosts call (`request_function_unique`).
 pub fn request_function(request: Request) -> u8
     ensures { result ≡ function_number (function_of request) }
 {
@@ -177,7 +178,7 @@ impl Body for Request {
 
     ghost head = { head_bytes };
 
-    ghost faults_numbered = { λ request mask. T_true _ (numbered_faults request) };
+    ghost faults_numbered = { λ request mask. T_true _ (named_numbered (field_faults request) (named_faults request)) };
 
     ghost head_length = { length_head };
 

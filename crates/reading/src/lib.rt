@@ -47,7 +47,7 @@ impl From<Kind> for u8 {
     }
 }
 
-// The kind of a number of two bits. It answers every number, as its clause says, which a TryFrom would not.
+// The kind of a number of two bits. Of a greater one it is the last kind, as `kind_from` of specs has it; a From would promise that none is lost.
 pub fn kind_from(number: u8) -> Kind
     ensures { result ≡ kind_from number }
 {
@@ -82,6 +82,7 @@ pub fn bits(r: Reading) -> u64
     }
 }
 
+// No From: a kind is a part of a reading, and not another form of it.
 pub fn kind_of(r: Reading) -> Kind
     ensures { result ≡ kind_of r }
 {
@@ -105,7 +106,7 @@ pub fn is_absent(r: Reading) -> bool
     }
 }
 
-// The same kind and the same bits.
+// The same kind and the same bits: the derived equality, under the name that the promises use.
 pub fn is_same(a: Reading, b: Reading) -> bool
     ensures { result ≡ same a b }
 {

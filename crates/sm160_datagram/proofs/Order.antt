@@ -7,7 +7,7 @@ use Rattle.wire.specs.Refusal.{Rule, NoneHolds, FirstInOrder}
 use Rattle.std.specs.Prelude.{Ok}
 use Rattle.wire.specs.Answer.{refuse}
 use Rattle.wire.specs.Writes.{Written, told_written}
-use Rattle.wire.proofs.Answer.{answer_first}
+use Rattle.wire.proofs.Answer.{named_first}
 use Rattle.wire.proofs.Rules.{refusal_law, none_append, none_both, first_none, none_first}
 use Rattle.wire.proofs.Writes.{written_first}
 use Rattle.sm160_datagram.specs.Layout.{type_of}
@@ -21,7 +21,7 @@ datagram_fault_first d = refusal_law (datagram_rules d) tt
 
 pub read_datagram_first : (d : List ℕ) → FirstInOrder (datagram_rules d) (told_datagram_read (read_datagram d)).number
 unfolding read_datagram datagram_fault
-read_datagram_first d = answer_first refuse (Ok (type_of d)) (λ r. (told_datagram_read r).number) (λ n. refl) (datagram_rules d) tt refl
+read_datagram_first d = named_first refuse (Ok (type_of d)) (λ r. (told_datagram_read r).number) (λ n. refl) (datagram_rules d) tt refl
 
 pub write_datagram_first : (type : ℕ) (options content out : List ℕ) (r : Written) (out' : List ℕ) → WritesDatagram type options content out r out'
     → FirstInOrder (write_rules options content out) (told_written r).number

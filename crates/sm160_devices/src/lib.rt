@@ -89,7 +89,7 @@ fn put_attribute(out: &mut [u8], at: usize, letter: u8, text: &[u8])
     wire::put(out, at + 4 + text.len(), b'"');
 }
 
-// A line of the device list, over the front of out: the texts of D, K and S.
+// A line of the device list, over the front of out: the texts of D, K and S, one by one, as a host has them.
 pub fn write_device(d: &[u8], k: &[u8], s: &[u8], out: &mut [u8]) -> Written
     ensures { Writes (first (device_rules d.now k.now s.now out.old)) (device_bytes d.now k.now s.now) out.old result out.new }
 {

@@ -7,7 +7,7 @@ use Rattle.wire.specs.Refusal.{FirstInOrder}
 use Rattle.std.specs.Prelude.{Ok}
 use Rattle.wire.specs.Answer.{refuse}
 use Rattle.wire.specs.Writes.{Written, told_written}
-use Rattle.wire.proofs.Answer.{answer_first}
+use Rattle.wire.proofs.Answer.{named_first}
 use Rattle.wire.proofs.Rules.{in_order}
 use Rattle.wire.proofs.Writes.{written_first}
 use Rattle.sm160_frame.specs.Layout.{frame_bytes}
@@ -20,7 +20,7 @@ frame_fault_first limit s = in_order (frame_rules limit s) _ tt refl
 
 pub frame_read_first : (s : List ℕ) → FirstInOrder (frame_rules LARGEST s) (told_frame_read (read_frame s)).number
 unfolding read_frame frame_fault
-frame_read_first s = answer_first refuse (Ok (fields_of s)) (λ r. (told_frame_read r).number) (λ n. refl) (frame_rules LARGEST s) tt refl
+frame_read_first s = named_first refuse (Ok (fields_of s)) (λ r. (told_frame_read r).number) (λ n. refl) (frame_rules LARGEST s) tt refl
 
 pub frame_write_first : (session offset flags : ℕ) (part out : List ℕ) (r : Written) (out' : List ℕ)
     → WritesFrame session offset flags part out r out' → FirstInOrder (write_rules flags part out) (told_written r).number

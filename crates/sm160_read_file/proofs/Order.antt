@@ -14,7 +14,7 @@ use Rattle.wire.specs.Answer.{judged, refuse}
 use Rattle.std.proofs.lemmas.Result.{err_from_is_err_and}
 use Rattle.wire.specs.Writes.{Written, Writes, told_written}
 use Rattle.wire.specs.declared.refusals.Refusal.{Refusal}
-use Rattle.wire.proofs.Answer.{answer_first, none_judged, accepted_as}
+use Rattle.wire.proofs.Answer.{named_first, none_judged, accepted_as}
 use Rattle.wire.proofs.Rules.{first_none, none_first}
 use Rattle.wire.proofs.Writes.{written_first, writes_judged}
 use Rattle.sm160_datagram.specs.Layout.{type_of, options_of, data_of}
@@ -34,11 +34,11 @@ request offset size = record { offset = offset; size = size }
 pub read_request_first : (d : List ℕ) → FirstInOrder (request_rules d) (told_request_read (read_request d)).number
 unfolding read_request
 read_request_first d =
-    answer_first refuse (Ok (request_of d)) (λ r. (told_request_read r).number) (λ n. refl) (request_rules d) tt refl
+    named_first refuse (Ok (request_of d)) (λ r. (told_request_read r).number) (λ n. refl) (request_rules d) tt refl
 
 pub read_reply_first : (d : List ℕ) → FirstInOrder (reply_rules d) (told_reply_read (read_reply d)).number
 unfolding read_reply
-read_reply_first d = answer_first refuse (Ok (status_of (options_of d))) (λ r. (told_reply_read r).number) (λ n. refl) (reply_rules d) tt refl
+read_reply_first d = named_first refuse (Ok (status_of (options_of d))) (λ r. (told_reply_read r).number) (λ n. refl) (reply_rules d) tt refl
 
 pub write_request_first : (offset size : ℕ) (name out : List ℕ) (r : Written) (out' : List ℕ) → WritesRequest offset size name out r out'
     → FirstInOrder (write_rules name (request_bytes offset size name) out) (told_written r).number
@@ -84,6 +84,9 @@ module _ (type : ℕ) (bad : Bool) (d : List ℕ) where
       first_none (file_rules type bad d) (none_datagram d (35 when other_type type d ∷ 36 when bad ∷ []) good (ours, (fine, tt)))
 
 -- ---- what the writers are told of the length n that is due: a refusal, or that the text is short and there is room
+abbrev pub MayWrite : List ℕ → List ℕ → List ℕ → ℕ → ℕ → Type 0
+MayWrite text bs out n m = (length text ≤ 65535) × (n ≤ length out) × (0 ≡ first (write_rules text bs out)) × (m ≡ length bs)
+
 module _ (text bs out : List ℕ) (n : ℕ) (e : length bs ≡ n) where
   abbrev asked_for : List Rule
   asked_for = 36 when long_text text ∷ 16 when ltb (length out) n ∷ []
@@ -96,7 +99,7 @@ module _ (text bs out : List ℕ) (n : ℕ) (e : length bs ≡ n) where
       let p = err_from_is_err_and r exit.1 in
       rw (p.1, p.2) (writes_judged bs out n (Err d) (first (write_rules text bs out)) d (j ∙ ap (judged n) same_rules) refl)
 
-  pub may_write : (m : ℕ) → Ok m ≡ judged n (first asked_for) → (length text ≤ 65535) × (n ≤ length out) × (0 ≡ first (write_rules text bs out)) × (m ≡ length bs)
+  pub may_write : (m : ℕ) → Ok m ≡ judged n (first asked_for) → MayWrite text bs out n m
   may_write m j =
       let ok = accepted_as n (first asked_for) m (sym j) in
       let h = none_first asked_for tt ok.0 in

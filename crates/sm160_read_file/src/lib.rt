@@ -119,38 +119,47 @@ pub fn message_of(bytes: &[u8]) -> &[u8]
 
 // ---- written
 
-// A text with its length before it and its closing zero.
-fn put_text(out: &mut [u8], at: usize, text: &[u8])
-    requires { (at ≤ 22) × (length text.now ≤ 65535) }
-    ensures { out.new ≡ sets out.old at (text_bytes text.now) }
-{
-    wire::put_le16(out, at, text.len() as u16);
-    wire::put_all(out, at + 2, text);
-    wire::put(out, at + 2 + text.len(), 0);
+// A text of a length that its two bytes hold.
+#[derive(Clone, Copy)]
+struct Text<'a> {
+    bytes: &'a [u8],
+    ghost short: { length bytes.now ≤ 65535 },
 }
 
-fn put_request(offset: u64, size: u64, name: &[u8], out: &mut [u8])
-    requires { (length name.now ≤ 65535) × (length name.now + 37 ≤ length out.old) }
-    ensures { out.new ≡ over out.old (request_bytes offset size name.now) }
+impl Text<'_> {
+    // With its length before it and its closing zero.
+    fn put(&self, out: &mut [u8], at: usize)
+        requires { at ≤ 22 }
+        ensures { out.new ≡ sets out.old at (text_bytes self.now.bytes.now) }
+    {
+        wire::put_le16(out, at, self.bytes.len() as u16);
+        wire::put_all(out, at + 2, self.bytes);
+        wire::put(out, at + 2 + self.bytes.len(), 0);
+    }
+}
+
+fn put_request(offset: u64, size: u64, name: Text<'_>, out: &mut [u8])
+    requires { length name.bytes.now + 37 ≤ length out.old }
+    ensures { out.new ≡ over out.old (request_bytes offset size name.entry.bytes.now) }
 {
-    sm160_datagram::put_opening(out, REQUEST, name.len() as u32 + 19);
+    sm160_datagram::put_opening(out, REQUEST, name.bytes.len() as u32 + 19);
     wire::put_le64(out, 6, offset);
     wire::put_le64(out, 14, size);
-    put_text(out, 22, name);
-    sm160_datagram::put_closing(out, name.len() + 25, 0);
+    name.put(out, 22);
+    sm160_datagram::put_closing(out, name.bytes.len() + 25, 0);
 }
 
-fn put_reply(status: u32, message: &[u8], content: &[u8], out: &mut [u8])
-    requires { (length message.now ≤ 65535) × (length message.now + length content.now + 25 ≤ length out.old) }
-    ensures { out.new ≡ over out.old (reply_bytes status message.now content.now) }
+fn put_reply(status: u32, message: Text<'_>, content: &[u8], out: &mut [u8])
+    requires { length message.bytes.now + length content.now + 25 ≤ length out.old }
+    ensures { out.new ≡ over out.old (reply_bytes status message.entry.bytes.now content.now) }
 {
-    sm160_datagram::put_opening(out, REPLY, message.len() as u32 + 7);
+    sm160_datagram::put_opening(out, REPLY, message.bytes.len() as u32 + 7);
     wire::put_le32(out, 6, status);
-    put_text(out, 10, message);
-    wire::put_all(out, message.len() + 13, content);
+    message.put(out, 10);
+    wire::put_all(out, message.bytes.len() + 13, content);
     sm160_datagram::put_closing(
         out,
-        message.len() + content.len() + 13,
+        message.bytes.len() + content.len() + 13,
         content.len() as u64,
     );
 }
@@ -176,7 +185,7 @@ pub fn write_request(offset: u64, size: u64, name: &[u8], out: &mut [u8]) -> Wri
     ensures { WritesRequest offset size name.now out.old result out.new }
 {
     let n = length_due(name, &[], 37, out.len())?;
-    put_request(offset, size, name, out);
+    put_request(offset, size, Text { bytes: name }, out);
     Ok(n)
 }
 
@@ -185,6 +194,6 @@ pub fn write_reply(status: u32, message: &[u8], content: &[u8], out: &mut [u8]) 
     ensures { WritesReply status message.now content.now out.old result out.new }
 {
     let n = length_due(message, content, 25, out.len())?;
-    put_reply(status, message, content, out);
+    put_reply(status, Text { bytes: message }, content, out);
     Ok(n)
 }

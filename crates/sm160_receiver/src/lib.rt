@@ -58,6 +58,7 @@ pub enum Progress {
     Complete(usize),
 }
 
+// What a frame is answered, and the receiver after it.
 #[derive(Clone, Copy, Debug, PartialEq, Eq)]
 pub struct Received {
     pub answer: Result<Progress, Refusal>,

@@ -273,7 +273,7 @@ fn read<T: Record>(file: &[u8], place: usize) -> LineRead<T>
     }
 }
 
-// The record of an archive at a place of its file.
+// The record of an archive at a place of its file. Each file has its readers by name; they are one function.
 pub fn read_record(file: &[u8], place: usize) -> ArchiveRead
     ensures { result ≡ read_record file.now place }
 {

@@ -20,10 +20,6 @@ address_of t k = address_in t.addresses k
 abbrev pub is_due : Table → ℕ → Bool
 is_due t k = due_in t.due k
 
--- a table of its parts
-abbrev pub table_of : List ℕ → List Bool → ℕ → Table
-table_of addresses due last = record { addresses = addresses; due = due; last = last }
-
 -- slots are 1 to 32
 abbrev pub IsSlot : ℕ → Type 0
 IsSlot k = (1 ≤ k) × (k ≤ 32)

@@ -13,6 +13,7 @@ fn fields(line: &mut Line, c: Card) -> Said {
     line.words(&[u8::from(kind_of(c.value)) as u64, bits(c.value)])
 }
 
+// No From<Case>: the case is a card by its act alone.
 fn card_from(case: Case) -> Card {
     Card {
         address: case.word(0),

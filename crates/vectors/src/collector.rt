@@ -20,14 +20,11 @@ fn lent(line: &mut Line, count: usize, byte: u8, len: u8) -> Said {
     bytes[5] = len;
     let c = Collector { bytes, count };
     let pushed = push(c, byte);
-    match pushed.answer {
-        Ok(()) => line.words(&[0, pushed.state.count as u64])?,
-        Err(refusal) => line.words(&[refusal.number() as u64])?,
-    }
-    match silence(c).answer {
-        Ok(handed) => line.numbers(&[0, handed.count as u64, handed.missing as u64]),
-        Err(refusal) => line.numbers(&[refusal.number() as u64]),
-    }
+    let left = pushed.state.count as u64;
+    line.answer(pushed.answer.map(|_| [left]))?;
+    let handed = silence(c).answer;
+    line.answer(handed.map(|h| [h.count as u64, h.missing as u64]))?;
+    line.bytes(b"")
 }
 
 pub fn answer(line: &mut Line, case: Case) -> Said {

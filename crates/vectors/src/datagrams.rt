@@ -64,10 +64,8 @@ fn long(line: &mut Line, kind: u8, n: usize, room: usize) -> Said {
     let text = [0u8; 65600];
     let mut buffer = [0u8; 65700];
     let out = buffer.get_mut(..room).ok_or(Stop::NoBuffer)?;
-    match write_text(kind, front(&text, n), out) {
-        Ok(length) => line.words(&[0, length as u64])?,
-        Err(refusal) => line.words(&[refusal.number() as u64])?,
-    }
+    let w = write_text(kind, front(&text, n), out);
+    line.answer(w.map(|length| [length as u64]))?;
     line.numbers(&[checksum::crc32_from(0, out) as u64])
 }
 

@@ -21,10 +21,8 @@ fn tcp(line: &mut Line, bytes: &[u8]) -> Said {
 
 // The whole of the output, refused or not.
 fn ascii(line: &mut Line, chars: &[u8], out: &mut [u8]) -> Said {
-    match read_ascii(chars, out) {
-        Ok(a) => line.words(&[0, a.address as u64, a.function as u64, a.length as u64])?,
-        Err(refusal) => line.words(&[refusal.number() as u64])?,
-    }
+    let read = read_ascii(chars, out);
+    line.answer(read.map(|a| [a.address as u64, a.function as u64, a.length as u64]))?;
     line.bytes(out)
 }
 

@@ -3,12 +3,11 @@ use crate::case::Case;
 use crate::say::{Line, Said};
 use wire::{Refusal, Written, front, rest};
 
-// How many bytes a group asks for; 0 where one byte cannot tell them, and where the place is not there.
-fn bytes_asked(pdu: &[u8], place: usize) -> u8 {
+// How many bytes a group asks for, where there is one at the place and one byte can tell them.
+fn bytes_asked(pdu: &[u8], place: usize) -> Option<u8> {
     adi_request::asked_at(pdu, place)
         .and_then(|a| u8::try_from(a.length).ok())
         .and_then(|n| n.checked_mul(2))
-        .unwrap_or(0)
 }
 
 // The reply to a request of n groups. Without registers it means no data.
@@ -16,9 +15,10 @@ fn write_reply(pdu: &[u8], n: usize, registers: &[u8], out: &mut [u8]) -> Writte
     if registers.is_empty() {
         return adi_reply::write_no_data(2, 0, out);
     }
+    // Plain bytes, as `write_reply` takes them: 0 where none is asked for.
     let mut lengths = [0u8; 35];
     for (i, length) in lengths.iter_mut().enumerate() {
-        *length = bytes_asked(pdu, i + 1);
+        *length = bytes_asked(pdu, i + 1).unwrap_or(0);
     }
     adi_reply::write_reply(front(&lengths, n), registers, out)
 }
@@ -30,6 +30,7 @@ fn reply_data<'a>(pdu: &[u8], registers: &[u8], room: &'a mut [u8]) -> Result<&'
     Ok(rest(front(room, length), 1))
 }
 
+// Two functions: they differ in what is read, in the fields handed on and in the writer, and one for both would take a closure for each.
 fn rtu(packet: &[u8], registers: &[u8], out: &mut [u8]) -> Written {
     let r = modbus::read_rtu(packet)?;
     let mut room = [0u8; 253];

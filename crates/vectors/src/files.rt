@@ -21,10 +21,8 @@ pub fn answer(line: &mut Line, case: Case, out: &mut [u8]) -> Said {
             line.written(w, out)
         }
         _ => {
-            match send(bytes, case.short(0), case.size(1), case.size(2), out) {
-                Ok(sent) => line.words(&[0, sent.length as u64, sent.next as u64])?,
-                Err(refusal) => line.words(&[refusal.number() as u64])?,
-            }
+            let sent = send(bytes, case.short(0), case.size(1), case.size(2), out);
+            line.answer(sent.map(|s| [s.length as u64, s.next as u64]))?;
             line.bytes(out)
         }
     }

@@ -23,11 +23,12 @@ fn frame(line: &mut Line, case: Case, buffer: &mut [u8]) -> Said {
         count: case.size(3),
     };
     let received = receive(before, case.bytes, buffer);
-    match received.answer {
-        Ok(Progress::Held(n)) => line.words(&[0, 0, n as u64])?,
-        Ok(Progress::Complete(n)) => line.words(&[0, 1, n as u64])?,
-        Err(refusal) => line.words(&[refusal.number() as u64])?,
-    }
+    line.answer(
+        received.answer.map(|progress| match progress {
+            Progress::Held(n) => [0, n as u64],
+            Progress::Complete(n) => [1, n as u64],
+        }),
+    )?;
     state(line, received.state, buffer)
 }
 

@@ -26,6 +26,7 @@ fn reply(line: &mut Line, r: Reply, values: &[u8]) -> Said {
     line.bytes(values)
 }
 
+// As `clock_of` of pulsar_reply, which is private: no public function there makes a reply of a date alone.
 fn clock_from(d: DateTime) -> Reply {
     if is_no_date(d) {
         Reply::NoClock
@@ -34,6 +35,7 @@ fn clock_from(d: DateTime) -> Reply {
     }
 }
 
+// No From<Case>: the case is a reply by its act alone.
 fn reply_from(case: Case) -> Reply {
     match case.byte(0) {
         0x00 => Reply::Error(case.byte(4)),

@@ -26,6 +26,7 @@ fn request(line: &mut Line, r: Request, values: &[u8]) -> Said {
     line.bytes(values)
 }
 
+// No From<Case>: the case is a request by its act alone.
 fn request_from(case: Case) -> Request {
     match case.byte(0) {
         0x01 => Request::ReadChannels(case.word(2)),

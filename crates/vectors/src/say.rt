@@ -130,11 +130,20 @@ impl Line {
         }
     }
 
+    // 0 and the numbers of an answer, or the refusal's number; more follows either way.
+    pub fn answer<const N: usize>(&mut self, answer: Result<[u64; N], Refusal>) -> Said {
+        match answer {
+            Ok(words) => {
+                self.words(&[0])?;
+                self.words(&words)
+            }
+            Err(refusal) => self.words(&[refusal.number() as u64]),
+        }
+    }
+
     // A writer's answer, and the whole of its output.
     pub fn written(&mut self, w: Written, out: &[u8]) -> Said {
-        match w {
-            Ok(n) => self.say(&[0, n as u64], out),
-            Err(refusal) => self.say(&[refusal.number() as u64], out),
-        }
+        self.answer(w.map(|n| [n as u64]))?;
+        self.bytes(out)
     }
 }

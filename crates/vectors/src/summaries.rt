@@ -78,6 +78,7 @@ fn tell<V: Told, S>(line: &mut Line, s: &Summary<V, S>, steps: &[V]) -> Said
 
 pub fn answer(line: &mut Line, case: Case) -> Said {
     let body = case.bytes;
+    // Four arms: each summary is of a type of its own, and `ends` and `each` of `tell` come from what its own reader promises.
     match kind_from(case.byte(0)) {
         Kind::F32 => {
             let s = read_f32(body)?;

@@ -1,11 +1,8 @@
 // Acts 81 to 87: the table of fair turns. Its slots are given and told as five bytes each: the address, and 1 where the slot is due.
 use crate::case::Case;
 use crate::say::{Line, Said};
-use turns::{Given, Table};
+use turns::{Answered, Given, Table, Turned};
 use wire::{Refusal, byte_at, le32_at, le64_at};
-
-// What a call answers, with 0 for what it does not, and the table after it.
-type Outcome = (Result<Given, Refusal>, Table);
 
 // Two arrays, as the table has them.
 fn table_from(slots: &[u8], last: usize) -> Table {
@@ -24,39 +21,40 @@ fn table_from(slots: &[u8], last: usize) -> Table {
 
 // The slots, over the front.
 fn put_slots(out: &mut [u8], t: Table) {
-    for i in 0..32 {
-        wire::put_le32(out, 5 * i, t.addresses[i]);
-        wire::put(out, 5 * i + 4, t.due[i] as u8);
+    for (i, (address, due)) in t.addresses.iter().zip(t.due.iter()).enumerate() {
+        wire::put_le32(out, 5 * i, *address);
+        wire::put(out, 5 * i + 4, *due as u8);
     }
 }
 
+// Of a call that gives no slot and no address: the line and the 13 bytes have a place for both in each call, with 0 there.
 const NOTHING: Given = Given {
     slot: 0,
     address: 0,
 };
 
 // A call takes the slot, the address or neither.
-fn call(act: u8, slot: usize, address: u32, t: Table) -> Outcome {
+fn call(act: u8, slot: usize, address: u32, t: Table) -> Turned {
     let changed = match act {
         82 => {
             let added = turns::add(t, address);
-            return (
-                added.answer.map(|slot| Given { slot, address: 0 }),
-                added.table,
-            );
+            return Answered {
+                answer: added.answer.map(|slot| Given { slot, address: 0 }),
+                table: added.table,
+            };
         }
         83 => turns::remove(t, slot),
         84 => turns::mark(t, slot),
         85 => turns::clear(t, slot),
-        _ => {
-            let turned = turns::turn(t);
-            return (turned.answer, turned.table);
-        }
+        _ => return turns::turn(t),
     };
-    (changed.answer.map(|_| NOTHING), changed.table)
+    Answered {
+        answer: changed.answer.map(|_| NOTHING),
+        table: changed.table,
+    }
 }
 
-// The number, the slot and the address.
+// The number, the slot and the address, with 0 for what is not: a refusal's line has all three words, and its 13 bytes too.
 fn words(answer: Result<Given, Refusal>) -> (u8, usize, u32) {
     match answer {
         Ok(given) => (0, given.slot, given.address),
@@ -65,9 +63,10 @@ fn words(answer: Result<Given, Refusal>) -> (u8, usize, u32) {
 }
 
 // The answer, the last asked slot and the slots.
-fn called(line: &mut Line, (answer, t): Outcome, out: &mut [u8]) -> Said {
+fn called(line: &mut Line, turned: Turned, out: &mut [u8]) -> Said {
+    let t = turned.table;
     put_slots(out, t);
-    let (number, slot, address) = words(answer);
+    let (number, slot, address) = words(turned.answer);
     line.say(
         &[number as u64, slot as u64, address as u64, t.last as u64],
         out,
@@ -90,9 +89,9 @@ fn course(calls: &[u8], out: &mut [u8]) -> Table {
     let mut t = turns::new();
     for (i, given) in calls.chunks(13).enumerate() {
         let slot = le64_at(given, 1) as usize;
-        let (answer, after) = call(byte_at(given, 0), slot, le32_at(given, 9), t);
-        put_answer(out, 160 + 13 * i, answer);
-        t = after;
+        let turned = call(byte_at(given, 0), slot, le32_at(given, 9), t);
+        put_answer(out, 160 + 13 * i, turned.answer);
+        t = turned.table;
     }
     t
 }

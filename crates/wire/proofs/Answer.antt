@@ -10,9 +10,9 @@ use Rattle.std.specs.Prelude.{Result, Ok, Err, IsErr, IsErrAnd}
 use Rattle.std.proofs.lemmas.Result.{err_from_is_err_and}
 use Rattle.wire.specs.Answer.{answered, judged}
 use Rattle.wire.specs.Numbered.{number_of, refusal}
-use Rattle.wire.specs.Refusal.{Rule, pick, first, numbered, FirstInOrder}
+use Rattle.wire.specs.Refusal.{Rule, pick, first, numbered, named, FirstInOrder}
 use Rattle.wire.specs.declared.refusals.Refusal.{Refusal}
-use Rattle.wire.proofs.Rules.{in_order, first_numbered, hit, skip}
+use Rattle.wire.proofs.Rules.{in_order, first_named, named_numbered, hit, skip}
 
 -- ---- for the code, which asks one condition after another: r is what a function answered that tests b. `search (refuses, passes) depth 12`,
 -- where `refusal` unfolds, proves from these what a `return` owes
@@ -41,14 +41,28 @@ module _ {A : Type 0} (x : A) where
   judged_none n z = ap (judged x) z
 
 -- ---- demand 1
-module _ {A : Type 0} (refuse : ℕ → A) (accept : A) (told : A → ℕ) (says : (n : ℕ) → told (refuse n) ≡ number_of (refusal n)) where
-  -- the number that is told of an answer, 0 for none, is the first rule's
-  pub told_number : (rules : List Rule) → T (numbered rules) → told accept ≡ 0 → first rules ≡ told (answered refuse accept (first rules))
-  told_number rules t z = of (first rules) refl
+module _ {A : Type 0} (refuse : ℕ → A) (accept : A) (told : A → ℕ) where
+  tells : (rules : List Rule) → ((n : ℕ) → first rules ≡ suc n → told (refuse (suc n)) ≡ suc n) → told accept ≡ 0 → first rules ≡ told (answered refuse accept (first rules))
+  tells rules says z = of (first rules) refl
     where
       of : (n : ℕ) → first rules ≡ n → n ≡ told (answered refuse accept n)
       of zero e = sym z
-      of (suc n) e = ap suc refl ∙ sym (says (suc n) ∙ ap (λ (k : ℕ). number_of (refusal k)) (sym e) ∙ first_numbered rules t (λ (y : first rules ≡ 0). absurd (let k : suc n ≡ 0 = sym e ∙ y in omega arith)) ∙ e)
+      of (suc n) e = sym (says n e)
 
-  pub answer_first : (rules : List Rule) → T (numbered rules) → told accept ≡ 0 → FirstInOrder rules (told (answered refuse accept (first rules)))
-  answer_first rules t z = in_order rules _ t (told_number rules t z)
+  -- where the number of the first rule is told of its refusal, and 0 of what is accepted, the answer tells the first in its order
+  pub answer_first : (rules : List Rule) → T (numbered rules) → ((n : ℕ) → first rules ≡ suc n → told (refuse (suc n)) ≡ suc n) → told accept ≡ 0
+      → FirstInOrder rules (told (answered refuse accept (first rules)))
+  answer_first rules t says z = in_order rules _ t (tells rules says z)
+
+  -- so of answers that refuse with a `Refusal`, where each rule has the number of one
+  module _ (says : (n : ℕ) → told (refuse n) ≡ number_of (refusal n)) (rules : List Rule) (t : T (named rules)) where
+    its_number : (n : ℕ) → first rules ≡ suc n → told (refuse (suc n)) ≡ suc n
+    its_number n e =
+        says (suc n) ∙ ap (λ (k : ℕ). number_of (refusal k)) (sym e)
+        ∙ first_named rules t (λ (y : first rules ≡ 0). absurd (let k : suc n ≡ 0 = sym e ∙ y in omega arith)) ∙ e
+
+    pub told_number : told accept ≡ 0 → first rules ≡ told (answered refuse accept (first rules))
+    told_number z = tells rules its_number z
+
+    pub named_first : told accept ≡ 0 → FirstInOrder rules (told (answered refuse accept (first rules)))
+    named_first z = answer_first rules (named_numbered rules t) its_number z

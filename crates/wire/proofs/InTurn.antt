@@ -5,10 +5,15 @@ use mathlib.Core.List.{List, [], ◌∷◌, ◌++◌}
 use Prim.Native.Nat.{ℕ, zero, suc}
 use native.Mathlib.Omega.{arith}
 use lib.Dec.{T}
-use Rattle.wire.specs.Refusal.{Rule, first, numbered}
+use Rattle.wire.specs.Refusal.{Rule, first, numbered, named}
 use Rattle.wire.specs.Answer.{answered}
 use Rattle.wire.specs.InTurn.{in_turn, first_faulty, Faultless, FirstFault, FirstInTurn}
-use Rattle.wire.proofs.Rules.{first_skips, first_hits, first_none, none_first, first_is, is_first, numbered_append, passed, found}
+use Rattle.wire.proofs.Rules.{first_skips, first_hits, first_none, none_first, first_is, is_first, numbered_append, named_append, passed, found}
+
+pub in_turn_named : {A : Type 0} (rules : A → List Rule) → ((x : A) → T (named (rules x))) → (xs : List A) → T (named (in_turn rules xs))
+unfolding in_turn
+in_turn_named rules good [] = tt
+in_turn_named rules good (x ∷ xs) = named_append (rules x) (in_turn rules xs) (good x) (in_turn_named rules good xs)
 
 module _ {A : Type 0} (rules : A → List Rule) (good : (x : A) → T (numbered (rules x))) where
   pub in_turn_numbered : (xs : List A) → T (numbered (in_turn rules xs))

@@ -12,7 +12,7 @@ use Rattle.wire.specs.Numbered.{refusals, has_number, with_number, number_of, re
 use Rattle.wire.specs.declared.refusals.Refusal.TheVariants.{NobodyDue}
 use Rattle.wire.specs.declared.refusals.Refusal.{Refusal}
 use Rattle.wire.proofs.Bools.{T_both, both_T}
-use Rattle.wire.specs.Refusal.{Rule, ◌when◌, pick, first, asked_if, NoneHolds, FirstIs, numbered, FirstInOrder}
+use Rattle.wire.specs.Refusal.{Rule, ◌when◌, pick, first, asked_if, NoneHolds, FirstIs, numbered, named, FirstInOrder}
 
 pub first_skips : (rs ss : List Rule) → NoneHolds rs → first (rs ++ ss) ≡ first ss
 unfolding pick
@@ -29,7 +29,7 @@ unfolding pick
 none_first [] t e = tt
 none_first ((zero when b) ∷ rs) t e = absurd t
 none_first ((suc n when true) ∷ rs) t e = absurd (omega arith)
-none_first ((suc n when false) ∷ rs) t e = (refl, none_first rs (T_both (has_number (suc n) refusals) (numbered rs) t).1 e)
+none_first ((suc n when false) ∷ rs) t e = (refl, none_first rs t e)
 
 pub first_is : (rs : List Rule) (n : ℕ) → FirstIs rs n → first rs ≡ n
 unfolding pick
@@ -46,9 +46,20 @@ is_first ((m when false) ∷ rs) n e =
 -- two stretches of rules
 pub numbered_append : (rs ss : List Rule) → T (numbered rs) → T (numbered ss) → T (numbered (rs ++ ss))
 numbered_append [] ss t u = u
-numbered_append ((n when b) ∷ rs) ss t u =
-    let of = T_both (has_number n refusals) (numbered rs) t in
-    both_T (has_number n refusals) (numbered (rs ++ ss)) of.0 (numbered_append rs ss of.1 u)
+numbered_append ((zero when b) ∷ rs) ss t u = absurd t
+numbered_append ((suc n when b) ∷ rs) ss t u = numbered_append rs ss t u
+
+pub named_append : (rs ss : List Rule) → T (named rs) → T (named ss) → T (named (rs ++ ss))
+named_append [] ss t u = u
+named_append ((n when b) ∷ rs) ss t u =
+    let of = T_both (has_number n refusals) (named rs) t in
+    both_T (has_number n refusals) (named (rs ++ ss)) of.0 (named_append rs ss of.1 u)
+
+-- no refusal has the number 0
+pub named_numbered : (rs : List Rule) → T (named rs) → T (numbered rs)
+named_numbered [] t = tt
+named_numbered ((zero when b) ∷ rs) t = absurd t
+named_numbered ((suc n when b) ∷ rs) t = named_numbered rs (T_both (has_number (suc n) refusals) (named rs) t).1
 
 pub none_append : (rs ss : List Rule) → NoneHolds (rs ++ ss) → NoneHolds rs × NoneHolds ss
 none_append [] ss h = (tt, h)
@@ -87,11 +98,11 @@ with_its_number n last (r ∷ rs) t = of (eqb (number_of r) n) refl t (with_its_
     of false e u more = more u
 
 -- so of the first rule that holds
-pub first_numbered : (rs : List Rule) → T (numbered rs) → (first rs ≡ 0 → ⊥) → number_of (refusal (first rs)) ≡ first rs
+pub first_named : (rs : List Rule) → T (named rs) → (first rs ≡ 0 → ⊥) → number_of (refusal (first rs)) ≡ first rs
 unfolding pick refusal
-first_numbered [] t some = absurd (some refl)
-first_numbered ((n when true) ∷ rs) t some = with_its_number n NobodyDue refusals (T_both (has_number n refusals) (numbered rs) t).0
-first_numbered ((n when false) ∷ rs) t some = first_numbered rs (T_both (has_number n refusals) (numbered rs) t).1 some
+first_named [] t some = absurd (some refl)
+first_named ((n when true) ∷ rs) t some = with_its_number n NobodyDue refusals (T_both (has_number n refusals) (named rs) t).0
+first_named ((n when false) ∷ rs) t some = first_named rs (T_both (has_number n refusals) (named rs) t).1 some
 
 -- the same of the number that is told
 pub in_order : (rs : List Rule) (told : ℕ) → T (numbered rs) → first rs ≡ told → FirstInOrder rs told

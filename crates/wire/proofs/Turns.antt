@@ -10,8 +10,8 @@ use lib.Arith.{digits_lt}
 use lib.Dec.{lit<, ltb}
 use mathlib.Core.Bool.{Bool, true, false}
 use borrow.Author.Tests.{ltb-true, ltb-false}
-use lib.ListN.{length, get_or, take, drop, length-drop, drop_of_length-le, get_or-eq_default}
-use lib.Seq.{take_all, get_or-drop, drop-cons}
+use lib.ListN.{length, get_or, drop, drop_of_length-le, get_or-eq_default}
+use lib.Seq.{get_or-drop, drop-cons}
 use Rattle.wire.specs.Numbers.{number, of_le, field}
 
 -- the bytes of a part from its beginning are the bytes of the whole from the part's place
@@ -21,10 +21,6 @@ field_drop s at i zero = refl
 field_drop s at i (suc w) =
     let e : at + (i + 1) ≡ at + i + 1 = omega arith in
     ap₂ (λ (x : ℕ) (xs : List ℕ). x ∷ xs) (get_or-drop at s i 0) (field_drop s at (i + 1) w ∙ ap (λ (k : ℕ). field s k w) e)
-
--- a part from a place on
-pub part_from : (s : List ℕ) (at : ℕ) → take (length s - at) (drop at s) ≡ drop at s
-part_from s at = take_all (length s - at) (drop at s) (let l = length-drop at s in omega arith)
 
 pub field_of_rest : (s : List ℕ) (at w : ℕ) → field (drop at s) 0 w ≡ field s at w
 field_of_rest s at w = field_drop s at 0 w ∙ ap (λ (k : ℕ). field s k w) (add-zero at)

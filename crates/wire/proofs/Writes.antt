@@ -8,13 +8,13 @@ use lib.Dec.{T}
 use lib.ListN.{length, take, drop}
 use lib.Seq.{take-append_seam}
 use Rattle.wire.specs.Numbers.{over}
-use Rattle.wire.specs.Refusal.{Rule, first, numbered, FirstInOrder}
+use Rattle.wire.specs.Refusal.{Rule, first, named, FirstInOrder}
 use Rattle.std.specs.Prelude.{Result, Ok, Err}
 use Rattle.wire.specs.Answer.{refuse, judged}
 use Rattle.wire.specs.Numbered.{refusal}
 use Rattle.wire.specs.Writes.{Written, Writes, write_answer, write_output, told_written}
 use Rattle.wire.specs.declared.refusals.Refusal.{Refusal}
-use Rattle.wire.proofs.Answer.{answer_first}
+use Rattle.wire.proofs.Answer.{named_first}
 
 module _ (bs out : List ℕ) where
   -- a refusal k + 1, which is the first
@@ -62,8 +62,8 @@ pub wrote_all : (n : ℕ) (bs out : List ℕ) (r : Written) (out' : List ℕ) �
 wrote_all n bs out r out' w z = (w.answer ∙ ap (λ (m : ℕ). write_answer m bs) z, w.output ∙ ap (λ (m : ℕ). write_output m bs out) z)
 
 -- demand 1 of the number that a writer tells
-pub written_first : (rules : List Rule) (bs out : List ℕ) (r : Written) (out' : List ℕ) → T (numbered rules) → Writes (first rules) bs out r out'
+pub written_first : (rules : List Rule) (bs out : List ℕ) (r : Written) (out' : List ℕ) → T (named rules) → Writes (first rules) bs out r out'
     → FirstInOrder rules (told_written r).number
 written_first rules bs out r out' t w =
     subst (λ (x : Written). FirstInOrder rules (told_written x).number) (sym w.answer)
-    (answer_first refuse (Ok (length bs)) (λ x. (told_written x).number) (λ n. refl) rules t refl)
+    (named_first refuse (Ok (length bs)) (λ x. (told_written x).number) (λ n. refl) rules t refl)

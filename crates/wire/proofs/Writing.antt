@@ -11,7 +11,7 @@ use lib.Dec.{ltb}
 use borrow.Author.Tests.{ltb-true, ltb-false}
 use lib.ListN.{length, take, drop, get_or, set, replicate, length-set, length-take}
 use borrow.Rule.Slice.PartMut.{put_mid}
-use lib.Seq.{drop-drop, sets, sets-eq, set_out, take-nil, take-suc, take_all, length-take-le, take-append_seam}
+use lib.Seq.{drop-drop, sets, sets-eq, set_out, take-nil, take-suc, length-take-le, take-append_seam}
 use Rattle.wire.specs.Numbers.{field, over}
 use Rattle.wire.proofs.Turns.{field_of_rest}
 
@@ -29,9 +29,6 @@ sets_more out at src i h =
     ap (λ (k : ℕ). set (sets out at (take i src)) (at + k) (get_or src i 0)) (sym (length-take-le i src (omega arith)))
     ∙ sets_append out at (take i src) (get_or src i 0 ∷ [])
     ∙ ap (sets out at) (sym (take-suc src i 0 h) ∙ ap (λ (k : ℕ). take k src) (sym (add-one i)))
-
-pub sets_all : (out : List ℕ) (at : ℕ) (src : List ℕ) (i : ℕ) → length src ≤ i → sets out at (take i src) ≡ sets out at src
-sets_all out at src i h = ap (sets out at) (take_all i src h)
 
 -- what the code stores at once, by a part of out that it lends: part, which has room
 pub put_part : (out : List ℕ) (at : ℕ) (part new : List ℕ) → new ≡ part → at + length part ≤ length out → put_mid at (at + length part - at) out new ≡ sets out at part

@@ -1,4 +1,4 @@
--- The paper's numbers of what is wrong, and what is wrong by its number. A number of none is taken for 105's: no list of rules has one (`numbered`).
+-- The paper's numbers of what is wrong, and what is wrong by its number. A number of none is taken for 105's: no list of rules has one (`named`).
 -- Assumes nothing.
 use Rattle.std.specs.Prelude.{ℕ, Bool, false, ◌||◌, List, [], ◌∷◌, eqb, cond}
 use Rattle.wire.specs.declared.refusals.Refusal.{Refusal}

@@ -1,6 +1,6 @@
 -- Refusals in an order: a list of rules, each a number and whether its condition holds, and the number of the first that holds.
 -- Assumes nothing.
-use Rattle.std.specs.Prelude.{ℕ, suc, ◌≡◌, Bool, true, false, ◌&&◌, List, [], ◌∷◌, ◌++◌}
+use Rattle.std.specs.Prelude.{ℕ, zero, suc, ◌≡◌, Bool, true, false, ◌&&◌, List, [], ◌∷◌, ◌++◌}
 use Rattle.wire.specs.Numbered.{refusals, has_number}
 
 pub data Rule : Type 0 where
@@ -33,10 +33,16 @@ NoneHolds ((n when b) ∷ rs) = (b ≡ false) × NoneHolds rs
 abbrev pub FirstIs : List Rule → ℕ → Type 0
 FirstIs rs n = (before : List Rule) × (after : List Rule) × (rs ≡ before ++ ((n when true) ∷ after)) × NoneHolds before
 
--- each rule's number is a refusal's, and so none is 0, which stands for none: for a list that is written out, it computes
+-- no rule has the number 0, which stands for none: for a list that is written out, it computes
 abbrev pub numbered : List Rule → Bool
 numbered [] = true
-numbered ((n when b) ∷ rs) = has_number n refusals && numbered rs
+numbered ((zero when b) ∷ rs) = false
+numbered ((suc n when b) ∷ rs) = numbered rs
+
+-- each rule's number is a refusal's (proofs/Rules, `named_numbered`: so none has the number 0); it computes as well
+abbrev pub named : List Rule → Bool
+named [] = true
+named ((n when b) ∷ rs) = has_number n refusals && named rs
 
 -- demand 1 of an answer: it is n just where rule n holds and no earlier one does, and 0 just where none holds
 abbrev pub FirstInOrder : List Rule → ℕ → Type 0

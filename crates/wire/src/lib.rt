@@ -41,7 +41,7 @@ pub fn byte_at(s: &[u8], at: usize) -> u8
     if at < s.len() { s[at] } else { 0 }
 }
 
-// The first w bytes, least significant first.
+// The first w bytes, least significant first: one loop over the width, from the last byte on, and bytes past the end are 0.
 fn le_of(s: &[u8], w: usize) -> u64
     requires { w ≤ 8 }
     ensures { (result ≡ of_le (field s.now 0 w)) × (result < 256 ^ w) }
@@ -53,6 +53,7 @@ fn le_of(s: &[u8], w: usize) -> u64
     v
 }
 
+// One for each width, and so the stores: a number has its type, and `to_le_bytes` is each type's own.
 pub fn le16_at(s: &[u8], at: usize) -> u16
     ensures { result ≡ of_le (field s.now at 2) }
 {
@@ -71,6 +72,7 @@ pub fn le64_at(s: &[u8], at: usize) -> u64
     le_of(rest(s, at), 8)
 }
 
+// By its two bytes, which may lie past the end.
 pub fn be16_at(s: &[u8], at: usize) -> u16
     ensures { result ≡ of_be (field s.now at 2) }
 {
@@ -178,7 +180,7 @@ pub fn digit(d: u64) -> u8
     byte_at(b"0123456789ABCDEF", d as usize)
 }
 
-// The letters among the digits, from the first to the last.
+// The letters among the digits, from the first to the last: named, so that a wrong one is refused by what `digit_of` says.
 const A: u8 = b'A';
 
 const F: u8 = b'F';

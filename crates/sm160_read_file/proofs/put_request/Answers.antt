@@ -5,4 +5,4 @@ use Rattle.sm160_read_file.proofs.put_request.Goals as goal
 pub returns : goal.returns
 returns c =
     let a = c.args in
-    cc (stored_request a.offset a.size a.name.now a.out.now, whole_request a.offset a.size a.name.now a.out.now c.requires.1)
+    cc (stored_request a.offset a.size a.name.bytes.now a.out.now, whole_request a.offset a.size a.name.bytes.now a.out.now c.requires)
