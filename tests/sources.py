@@ -267,8 +267,8 @@ def public_functions():
             end = text.find(f"\n{indent}{{", m.end())
             signature, said, contract = text[m.start():end].partition("ensures")
             name = "::".join([*path, m.group(1)])
-            if not said:
-                sys.exit(f"{name} has no contract")
+            if not said or "requires" in signature + contract:
+                sys.exit(f"{name} has no contract, or asks")
             arguments = re.sub(r"(\( ?|, )mut ", r"\1", " ".join(signature.split())[len("pub fn " + m.group(1)):])
             arguments = arguments.replace("( ", "(").replace(", )", ")")
             yield name, arguments, nearest_lists(contract, imports)
@@ -286,6 +286,63 @@ def public_functions():
 
     for crate in crates():
         yield from walk(crate, ROOT / "crates" / crate / "src" / "lib.rt", [])
+
+
+class Method(NamedTuple):
+    """A conversion by From or TryFrom, or a method of a public trait: as the trait has it, and as an impl has it."""
+    name: str
+    arguments: str
+    lists: list  # the rule lists nearest to its contract; none where each impl has its own
+    reads: str  # where its contract is read (proofs/Unique speaks of that); nothing for the trait's
+    public: bool  # whether who calls can name its type
+
+
+def camel(kind):
+    """A type, as the name of an impl has it."""
+    array = re.fullmatch(r"\[(\w+); (\d+)\]", kind)
+    return f"Array{camel(array.group(1))}{array.group(2)}" if array else kind[0].upper() + kind[1:]
+
+
+def source_files():
+    """Each source of each crate: the crate, its module, and its text without comments."""
+    for crate in crates():
+        src = ROOT / "crates" / crate / "src"
+        for path in sorted(src.rglob("*.rt")):
+            parts = path.relative_to(src).with_suffix("").parts
+            yield crate, [] if parts == ("lib",) else list(parts), re.sub(r"//[^\n]*", "", path.read_text())
+
+
+def methods():
+    """Every method of the public traits of public modules, and of each impl of these, From and TryFrom: a derived one has no contract of its own."""
+    files = list(source_files())
+    told = {crate: "".join(text for c, _, text in files if c == crate) for crate, _, _ in files}
+    traits = {}
+    for crate, module, text in files:
+        if all(f"pub mod {name};" in told[crate] for name in module):
+            imports = imported(" ".join(text.split()))
+            for trait, body in re.findall(r"^pub trait (\w+)[^{]*\{$(.*?)^\}$", text, re.M | re.S):
+                by_impl = re.findall(r"^    ghost (\w+): \{ .*→ List Rule \};$", body, re.M)
+                found = re.findall(r"^    fn (\w+)(.*?)\s+ensures \{(.*?)\};$", body, re.M | re.S)
+                if len(found) != len(re.findall(r"\bfn ", body)) or "requires" in body:
+                    sys.exit(f"{crate}: {trait} has a method that asks, or has no contract")
+                traits[trait] = {name: contract for name, _, contract in found}
+                for name, arguments, contract in found:
+                    own = set(by_impl) & set(WORD.findall(contract))
+                    yield Method("::".join([crate, *module, trait, name]), arguments, None if own else nearest_lists(contract, imports), "", True)
+    for crate, module, text in files:
+        imports = imported(" ".join(text.split()))
+        for trait, given, kind, body in re.findall(r"^impl(?:<[^>]*>)? (\w+)(?:<([^<>\n]*)>)? for (\S+) \{$(.*?)^\}$", text, re.M | re.S):
+            ghosts = {name: re.sub(r"^λ [^.]*\.", "", said) for name, said in re.findall(r"^    ghost (\w+) = \{ (.*?) \};$", body, re.M | re.S)}
+            for name, arguments in re.findall(r"^    fn (\w+)(.*?) \{$", body, re.M | re.S):
+                contract = ghosts.get(f"{name}_gives") if trait in ("From", "TryFrom") else traits.get(trait, {}).get(name)
+                if contract is not None:
+                    said = re.sub(WORD, lambda m: ghosts.get(m.group(), m.group()), contract)
+                    local = [t for t in (kind, given) if re.search(rf"\b(?:struct|enum) {re.escape(t)}\b", told[crate])] if given else [kind]
+                    public = all(re.search(rf"\bpub (?:struct|enum) {re.escape(t)}\b", told[crate]) for t in local)
+                    path = "::".join([crate, kind, name] if kind in local else [kind, name])
+                    shown = arguments if kind in local else re.sub(rf"\b({'|'.join(local)})\b", rf"{crate}::\1", arguments)
+                    reads = ".".join([crate, "proofs", *module, f"{camel(kind)}{trait}{camel(given) if given else ''}", name, "Reads"])
+                    yield Method(path, shown, nearest_lists(said, imports), reads, public)
 
 
 def keep(page, text):

@@ -7,7 +7,7 @@ use Prim.Native.Nat.{ℕ, zero, suc, ◌+◌, ◌-◌, ◌*◌, ◌≤◌, ◌<�
 use native.Mathlib.Numerals.{add-one}
 use native.Mathlib.Omega.{arith}
 use lib.Dec.{T, ltb}
-use lib.ListN.{length, get_or, drop}
+use lib.ListN.{length, get_or, drop, drop_of_length-le}
 use lib.Seq.{drop-cons}
 use borrow.Author.Tests.{eqb-true, ltb-false, not-false}
 use Rattle.std.specs.Prelude.{sum}
@@ -62,6 +62,16 @@ any_faulty (n ∷ ns) = ap (pick (not_even_from2 n) 83) (any_faulty ns) ∙ both
     both : (a b : Bool) → pick a 83 (pick b 83 0) ≡ pick (a || b) 83 0
     both true b = refl
     both false b = refl
+
+-- past the last length, what was found is the answer
+pub any_end : (ns : List ℕ) (i : ℕ) (faulty : Bool) → length ns ≤ i → (faulty || list_any not_even_from2 (drop i ns)) ≡ list_any not_even_from2 ns
+    → faulty ≡ list_any not_even_from2 ns
+any_end ns i faulty h e =
+    sym (ap (λ (l : List ℕ). faulty || list_any not_even_from2 l) (drop_of_length-le ns {i = i} h) ∙ or-false faulty) ∙ e
+  where
+    or-false : (b : Bool) → (b || false) ≡ b
+    or-false true = refl
+    or-false false = refl
 
 -- the sum of those from place i on
 module _ (ns : List ℕ) (i : ℕ) (h : i < length ns) where

@@ -12,7 +12,7 @@ use Rattle.wire.specs.Refusal.{pick, first, FirstInOrder}
 use Rattle.wire.specs.Writes.{Written, told_written}
 use Rattle.wire.proofs.Answer.{named_first, told_number}
 use Rattle.wire.proofs.InTurn.{in_turn_law}
-use Rattle.wire.proofs.Rules.{named_append}
+use Rattle.wire.proofs.Rules.{numbered_append}
 use Rattle.wire.proofs.Writes.{written_first}
 use Rattle.adi.specs.Head.{not_function}
 use Rattle.adi.specs.Room.{no_room}
@@ -20,7 +20,7 @@ use Rattle.adi.proofs.Room.{room_there}
 use Rattle.adi_reply.specs.Layout.{groups_of, reply_bytes}
 use Rattle.adi_reply.specs.Reading.{bad_count, group_rules, body_rules, four_bytes, reply_rules, found_in, read_reply, told_reply}
 use Rattle.adi_reply.specs.Writing.{cut, bad_number, length_rules, judge_rules, write_rules, WritesReply, no_data_rules, WritesNoData}
-use Rattle.adi_reply.proofs.Judging.{reply_named, judge_named}
+use Rattle.adi_reply.proofs.Judging.{reply_named, judge_numbered}
 
 -- what is found is told as no refusal
 found_0 : (b : Bool) (s : List ℕ) → (told_reply (Ok (found_in b s))).number ≡ 0
@@ -35,7 +35,7 @@ read_reply_first s =
 pub write_reply_first : (ns registers out : List ℕ) (r : Written) (out' : List ℕ) → WritesReply ns registers out r out'
     → FirstInOrder (write_rules ns registers out) (told_written r).number
 write_reply_first ns registers out r out' w =
-    written_first (write_rules ns registers out) _ out r out' (named_append (judge_rules ns registers) _ (judge_named ns registers) tt) w
+    written_first (write_rules ns registers out) _ out r out' (numbered_append (judge_rules ns registers) _ (judge_numbered ns registers) tt) w
 
 pub write_no_data_first : (count n : ℕ) (out : List ℕ) (r : Written) (out' : List ℕ) → WritesNoData count n out r out'
     → FirstInOrder (no_data_rules count n out) (told_written r).number
@@ -59,7 +59,4 @@ written_group_by_group ns registers out r out' w c room =
     let bytes = reply_bytes (cut ns registers) in
     let past : first (write_rules ns registers out) ≡ first (in_turn length_rules ns) =
     room_there (judge_rules ns registers) bytes out room ∙ ap (λ (b : Bool). pick b 80 (first (in_turn length_rules ns))) c in
-    let told : first (write_rules ns registers out) ≡ (told_written r).number =
-    told_number refuse (Ok (length bytes)) (λ x. (told_written x).number) (λ k. refl) (write_rules ns registers out) (named_append (judge_rules ns registers) _ (judge_named ns registers) tt) refl
-    ∙ ap (λ (x : Written). (told_written x).number) (sym w.answer) in
-    subst (FirstInTurn length_rules ns) (sym past ∙ told) (in_turn_law length_rules (λ n. tt) ns)
+    subst (FirstInTurn length_rules ns) (sym past ∙ sym w.told) (in_turn_law length_rules (λ n. tt) ns)

@@ -154,34 +154,49 @@ fn bad_number(lengths: &[u8], registers: &[u8]) -> bool
     not_4_to_245(lengths.len() * 2 + sum) | (sum != registers.len())
 }
 
-// All faulty groups have the same number.
+// All faulty groups have the same number, so each is asked, without an end at the first: the compiler asks many at once.
 fn judge(lengths: &[u8], registers: &[u8]) -> Result<(), Refusal>
     ensures { result ≡ judged tt (first (judge_rules lengths.now registers.now)) }
 {
     if bad_number(lengths, registers) {
         return Err(Refusal::BadCount);
     }
-    if lengths.iter().any(|n| not_even_from_2(*n)) {
+    let mut faulty = false;
+    for n in lengths {
+        faulty |= not_even_from_2(*n);
+    }
+    if faulty {
         return Err(Refusal::BadRecordLength);
     }
     Ok(())
 }
 
+// The register bytes of a group, from a place on.
+fn put_registers(registers: &[u8], out: &mut [u8], at: usize)
+    requires { at + length registers.now ≤ length out.old }
+    ensures { out.new ≡ sets out.old at registers.now }
+{
+    for (i, b) in registers.iter().enumerate() {
+        out[at + i] = *b;
+    }
+}
+
 fn put_reply(lengths: &[u8], registers: &[u8], out: &mut [u8])
-    requires { (length lengths.now * 2 + length registers.now ≤ 245) × (total lengths.now ≡ length registers.now) }
+    requires { (length lengths.now * 2 + length registers.now ≤ 245) × (total lengths.now ≡ length registers.now)
+        × (length lengths.now * 2 + length registers.now + 2 ≤ length out.old) }
     ensures { out.new ≡ sets out.old 0 (reply_bytes (cut lengths.now registers.now)) }
 {
-    let head = [adi::FUNCTION, (lengths.len() * 2 + registers.len()) as u8];
-    wire::put_all(out, 0, &head);
+    out[0] = adi::FUNCTION;
+    out[1] = (lengths.len() * 2 + registers.len()) as u8;
     let mut at = 2;
     let mut left = registers;
     for n in lengths {
         let length = *n as usize;
-        wire::put(out, at, *n);
-        wire::put(out, at + 1, 6);
-        wire::put_all(out, at + 2, wire::front(left, length));
+        out[at] = *n;
+        out[at + 1] = 6;
+        put_registers(&left[..length], out, at + 2);
         at += length + 2;
-        left = wire::rest(left, length);
+        left = &left[length..];
     }
 }
 
@@ -205,7 +220,9 @@ pub fn write_no_data(count: u8, length: u8, out: &mut [u8]) -> wire::Written
     if out.len() < 4 {
         return Err(Refusal::NoRoom);
     }
-    let bytes = [adi::FUNCTION, count, length, 6];
-    wire::put_all(out, 0, &bytes);
+    out[0] = adi::FUNCTION;
+    out[1] = count;
+    out[2] = length;
+    out[3] = 6;
     Ok(4)
 }

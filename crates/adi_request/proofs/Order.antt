@@ -12,7 +12,7 @@ use Rattle.wire.specs.Refusal.{pick, first, FirstInOrder}
 use Rattle.wire.specs.Writes.{Written, told_written}
 use Rattle.wire.proofs.Answer.{named_first, told_number}
 use Rattle.wire.proofs.InTurn.{in_turn_law}
-use Rattle.wire.proofs.Rules.{named_append}
+use Rattle.wire.proofs.Rules.{numbered_append}
 use Rattle.wire.proofs.Writes.{written_first}
 use Rattle.adi.specs.Head.{not_function}
 use Rattle.adi.specs.Room.{no_room}
@@ -21,7 +21,7 @@ use Rattle.adi_request.specs.Layout.{groups_of, request_bytes}
 use Rattle.adi_request.specs.Reading.{bad_count, group_rules, request_rules, read_request, told_request}
 use Rattle.adi_request.specs.Writing.{bad_number, asked_rules, judge_rules, write_rules, WritesRequest}
 use Rattle.adi_request.specs.declared.Asked.{Asked}
-use Rattle.adi_request.proofs.Judging.{request_named, judge_named}
+use Rattle.adi_request.proofs.Judging.{request_named, judge_numbered}
 
 pub read_request_first : (s : List ℕ) → FirstInOrder (request_rules s) (told_request (read_request s)).number
 unfolding read_request
@@ -31,7 +31,7 @@ read_request_first s =
 pub write_request_first : (asks : List Asked) (out : List ℕ) (r : Written) (out' : List ℕ) → WritesRequest asks out r out'
     → FirstInOrder (write_rules asks out) (told_written r).number
 write_request_first asks out r out' w =
-    written_first (write_rules asks out) _ out r out' (named_append (judge_rules asks) _ (judge_named asks) tt) w
+    written_first (write_rules asks out) _ out r out' (numbered_append (judge_rules asks) _ (judge_numbered asks) tt) w
 
 -- ---- group by group
 pub request_group_by_group : (s : List ℕ) → not_function s ≡ false → bad_count s ≡ false → FirstInTurn group_rules (groups_of s) (told_request (read_request s)).number
@@ -48,7 +48,4 @@ unfolding pick
 written_group_by_group asks out r out' w c room =
     let past : first (write_rules asks out) ≡ first (in_turn asked_rules asks) =
     room_there (judge_rules asks) (request_bytes asks) out room ∙ ap (λ (b : Bool). pick b 80 (first (in_turn asked_rules asks))) c in
-    let told : first (write_rules asks out) ≡ (told_written r).number =
-    told_number refuse (Ok (length (request_bytes asks))) (λ x. (told_written x).number) (λ k. refl) (write_rules asks out) (named_append (judge_rules asks) _ (judge_named asks) tt) refl
-    ∙ ap (λ (x : Written). (told_written x).number) (sym w.answer) in
-    subst (FirstInTurn asked_rules asks) (sym past ∙ told) (in_turn_law asked_rules (λ a. tt) asks)
+    subst (FirstInTurn asked_rules asks) (sym past ∙ sym w.told) (in_turn_law asked_rules (λ a. tt) asks)

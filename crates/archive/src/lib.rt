@@ -40,6 +40,13 @@ impl From<ArchiveKind> for u8 {
     }
 }
 
+// A kind's conversion under a name of its own: `type_number_unique` speaks of it.
+pub fn type_number(kind: ArchiveKind) -> u8
+    ensures { result ≡ type_number kind }
+{
+    u8::from(kind)
+}
+
 // Of any number too, as `source_from` of specs has it.
 pub fn source_from(number: u8) -> Source
     ensures { result ≡ source_from number }
@@ -59,4 +66,11 @@ impl From<Source> for u8 {
             Source::Archive(kind) => u8::from(kind),
         }
     }
+}
+
+// A source's, in the same way.
+pub fn source_number(source: Source) -> u8
+    ensures { result ≡ source_number source }
+{
+    u8::from(source)
 }

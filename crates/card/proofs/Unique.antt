@@ -20,6 +20,7 @@ use Rattle.card.proofs.forms.write_fields.Reads as write-fields
 use Rattle.card.proofs.fault_of.Reads as fault-of
 use Rattle.card.proofs.read_card.Reads as read-card
 use Rattle.card.proofs.write_card.Reads as write-card
+use Rattle.card.proofs.CardCardForm.widths.Reads as card-widths
 
 pub first_bytes_unique : Unique first-bytes.Post (λ κs r s. r)
 first_bytes_unique κs a r r' s s' e e' = e ∙ sym e'
@@ -62,3 +63,7 @@ read_fields_unique F laws form dict κs a r r' s s' e e' = e ∙ sym e'
 
 pub write_fields_unique : (F : _) (laws : _) (form : _) (dict : _) → Unique {Y = λ κs. Written × List ℕ} (write-fields.Post F laws form dict) (λ κs r s. (r, s.1.1.0.now))
 write_fields_unique F laws form dict κs a r r' s s' w w' = writes_once _ _ _ _ _ _ _ w w'
+
+-- conversions, and the methods of traits, as each impl has them
+pub card_widths_unique : Unique card-widths.Post (λ κs r s. r.now)
+card_widths_unique κs a r r' s s' e e' = e ∙ sym e'

@@ -1,6 +1,7 @@
 -- The fields of a card fit their widths, so the code reads each whole.
 -- Assumes nothing.
 use mathlib.Core.Path.{◌≡◌, sym, ap, ◌∙◌}
+use mathlib.Core.Bool.{Bool, false}
 use mathlib.Core.List.{List, [], ◌∷◌, ◌++◌}
 use Prim.Native.Nat.{ℕ, ◌+◌, ◌%◌, ◌^◌, ◌≤◌, ◌<◌}
 use native.Mathlib.Nat.{mod-eq_of_lt, lt_of_lt_of_le}
@@ -16,6 +17,7 @@ use Rattle.reading.specs.Reading.{kind_from}
 use Rattle.bits.proofs.Fields.{value_fits}
 use Rattle.bits.proofs.Read.{unpacked_front}
 use Rattle.card.specs.declared.fields.Fields.{Fields}
+use Rattle.card.specs.Reading.{other_length}
 use Rattle.card.specs.Layout.{field_widths, field_of, fields_in, Form, widths_of, after_fields, spare_of}
 
 pub field_fits : (s : List ℕ) (k : ℕ) → field_of k s < 2 ^ get_or field_widths k 0
@@ -51,6 +53,10 @@ pub form_spare : (f : Form) (s : List ℕ) (k r : ℕ) → k ≡ 10 + length f.o
 unfolding after_fields
 form_spare f s k r ek e =
     e ∙ ap (λ (n : ℕ). get_or (unpacked (widths_of f) s) n 0) ek ∙ sym (get_or-drop 10 (unpacked (widths_of f) s) (length f.own) 0)
+
+-- and its length, which the code has and asks for
+pub form_length : (s : List ℕ) (r : Bool) (n k m : ℕ) → r ≡ other_length n s → n ≡ k → k ≡ m → r ≡ false → other_length m s ≡ false
+form_length s r n k m e en ek f = sym (e ∙ ap (λ (j : ℕ). other_length j s) (en ∙ ek)) ∙ f
 
 -- ---- the ten fields lie in the first 17 bytes
 

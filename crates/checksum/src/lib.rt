@@ -2,18 +2,14 @@
 // the SM160 datagram.
 #![tactic(auto)]
 
-ghost use Rattle.std.specs.Prelude.{◌≡◌, ◌+◌, ◌%◌};
-ghost use Rattle.checksum.specs.Crc.{crc_bits, crc_byte, remainder, crc_from, crc};
-ghost use Rattle.checksum.specs.Crc32.{crc32_from};
+ghost use Rattle.std.specs.Prelude.{ℕ, ◌≡◌, ◌+◌, ◌%◌};
+ghost use Rattle.checksum.specs.Crc.{CRC16, crc_bits, crc_byte, remainder, crc_from, crc};
+ghost use Rattle.checksum.specs.Crc32.{CRC32, crc32_from};
 ghost use Rattle.checksum.specs.Sums.{sum_from, closing};
 ghost use Rattle.checksum.specs.Table.{fours};
 
-const CRC16: u32 = 0xA001;
-
-const CRC32: u32 = 0xEDB8_8320;
-
 // Four bits of each remainder below 16. It is laid out once for a message and lent: indexed where it stands, it would be laid out at each step.
-const FOUR: [u32; 16] = [
+const FOUR: [u16; 16] = [
     0x0000, 0xCC01, 0xD801, 0x1400, 0xF001, 0x3C00, 0x2800, 0xE401, 0xA001, 0x6C00, 0x7800, 0xB401,
     0x5000, 0x9C01, 0x8801, 0x4400,
 ];
@@ -37,46 +33,68 @@ const FOUR_OF_32: [u32; 16] = [
     0xBDBD_F21C,
 ];
 
-// A table of four bits, by the polynomial whose it is.
-#[derive(Clone, Copy)]
-struct Fours<const POLY: u32> {
-    entries: [u32; 16],
-    ghost holds: { entries ≡ fours POLY },
-}
+// A table of four bits, by the polynomial whose it is. Each has entries as wide as its polynomial, so that the CRC-16's is 32 bytes.
+trait Fours {
+    ghost poly: { ℕ };
 
-impl<const POLY: u32> Fours<POLY> {
     // Four bits of the remainder c: the lowest choose the entry, the others move down.
     fn four_bits(&self, c: u32) -> u32
-        ensures { result ≡ crc_bits POLY 4 c }
-    {
+        ensures { result ≡ crc_bits poly 4 c };
+}
+
+#[derive(Clone, Copy)]
+struct Table16 {
+    entries: [u16; 16],
+    ghost holds: { entries ≡ fours CRC16 },
+}
+
+impl Fours for Table16 {
+    ghost poly = { CRC16 };
+
+    fn four_bits(&self, c: u32) -> u32 {
+        (c / 16) ^ self.entries[(c % 16) as usize] as u32
+    }
+}
+
+#[derive(Clone, Copy)]
+struct Table32 {
+    entries: [u32; 16],
+    ghost holds: { entries ≡ fours CRC32 },
+}
+
+impl Fours for Table32 {
+    ghost poly = { CRC32 };
+
+    fn four_bits(&self, c: u32) -> u32 {
         (c / 16) ^ self.entries[(c % 16) as usize]
     }
+}
 
-    // One byte more: its low half, then its high half.
-    fn add_byte(&self, c: u32, b: u8) -> u32
-        ensures { result ≡ crc_byte POLY c b }
-    {
-        self.four_bits(self.four_bits(c ^ b as u32))
-    }
+// One byte more: its low half, then its high half.
+fn add_byte<F: Fours>(table: &F, c: u32, b: u8) -> u32
+    ensures { result ≡ crc_byte F.poly c b }
+{
+    table.four_bits(table.four_bits(c ^ b as u32))
+}
 
-    // The bytes of a message after the remainder that stands at the start.
-    fn remainder(&self, start: u32, bytes: &[u8]) -> u32
-        ensures { result ≡ remainder POLY start bytes.now }
-    {
-        let mut c = start;
-        for b in bytes {
-            c = self.add_byte(c, *b);
-        }
-        c
+// The bytes of a message after the remainder that stands at the start.
+fn remainder_after<F: Fours>(table: &F, start: u32, bytes: &[u8]) -> u32
+    ensures { result ≡ remainder F.poly start bytes.now }
+{
+    let mut c = start;
+    for b in bytes {
+        c = add_byte(table, c, *b);
     }
+    c
 }
 
 // From a start value: a message in several stretches is summed one stretch after the other. An SM160 frame starts from 0000.
 pub fn checksum_from(start: u16, bytes: &[u8]) -> u16
     ensures { result ≡ crc_from start bytes.now }
 {
-    let table = Fours::<CRC16> { entries: FOUR };
-    table.remainder(start as u32, bytes) as u16
+    let table = Table16 { entries: FOUR };
+    prove!(size_of::<Table16>() == 32);
+    remainder_after(&table, start as u32, bytes) as u16
 }
 
 // From FFFF, the rule of Pulsar-M and Modbus RTU.
@@ -115,8 +133,8 @@ pub fn lrc(sum: u8) -> u8
 pub fn crc32_from(crc: u32, bytes: &[u8]) -> u32
     ensures { result ≡ crc32_from crc bytes.now }
 {
-    let table = Fours::<CRC32> {
+    let table = Table32 {
         entries: FOUR_OF_32,
     };
-    table.remainder(crc ^ 0xFFFF_FFFF, bytes) ^ 0xFFFF_FFFF
+    remainder_after(&table, crc ^ 0xFFFF_FFFF, bytes) ^ 0xFFFF_FFFF
 }

@@ -1,4 +1,5 @@
 pub mod Stores
+pub mod Room
 pub mod Fields
 pub mod Lawful
 pub mod Promise

@@ -18,6 +18,10 @@ use Rattle.modbus.proofs.read_tcp.Reads as read-tcp
 use Rattle.modbus.proofs.tcp_data.Reads as tcp-data
 use Rattle.modbus.proofs.tcp_pdu.Reads as tcp-pdu
 use Rattle.modbus.proofs.write_tcp.Reads as write-tcp
+use Rattle.modbus.proofs.InRtuEnvelope.needed.Reads as rtu-needed
+use Rattle.modbus.proofs.InRtuEnvelope.put.Reads as rtu-put
+use Rattle.modbus.proofs.InTcpEnvelope.needed.Reads as tcp-needed
+use Rattle.modbus.proofs.InTcpEnvelope.put.Reads as tcp-put
 use Rattle.modbus.proofs.envelope.too_short.Reads as too_short
 use Rattle.modbus.proofs.envelope.too_long.Reads as too_long
 use Rattle.modbus.proofs.envelope.no_room.Reads as no_room
@@ -67,3 +71,16 @@ between_unique κs a r r' s s' e e' = e ∙ sym e'
 -- of any envelope
 pub write_unique : (E : RattleType) (laws : Laws E) (ghosts : Ghosts E.Denot) (dict : Dict) → Unique {Y = λ κs. Written × List ℕ} (write.Post E laws ghosts dict) (λ κs r s. (r, s.1.1.0.now))
 write_unique E laws ghosts dict κs a r r' s s' w w' = writes_once _ _ _ _ _ _ _ w w'
+
+-- the methods of `Envelope`, as each impl has them
+pub rtu_needed_unique : Unique rtu-needed.Post (λ κs r s. r)
+rtu_needed_unique κs a r r' s s' e e' = e ∙ sym e'
+
+pub rtu_put_unique : Unique rtu-put.Post (λ κs r s. s.1.1.0.now)
+rtu_put_unique κs a r r' s s' e e' = e ∙ sym e'
+
+pub tcp_needed_unique : Unique tcp-needed.Post (λ κs r s. r)
+tcp_needed_unique κs a r r' s s' e e' = e ∙ sym e'
+
+pub tcp_put_unique : Unique tcp-put.Post (λ κs r s. s.1.1.0.now)
+tcp_put_unique κs a r r' s s' e e' = e ∙ sym e'

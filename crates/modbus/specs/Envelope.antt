@@ -3,7 +3,7 @@
 -- Assumes nothing.
 use Rattle.std.specs.Prelude.{ℕ, ◌+◌, ◌-◌, Bool, List, [], ◌∷◌, ◌++◌, ltb, length, get_or, take, drop}
 use Rattle.wire.specs.Refusal.{Rule, ◌when◌, first}
-use Rattle.wire.specs.Writes.{Written, Writes}
+use Rattle.wire.specs.Writes.{Written, write_output, Writes}
 use Rattle.modbus.specs.declared.envelope.Message.{Message as ToWrite}
 
 -- the address is TCP's unit
@@ -46,6 +46,10 @@ plain_of e m = enveloped (e.head (content_of m)) (content_of m) (e.tail (content
 unfoldable pub bytes_of : Envelope → Message → List ℕ
 bytes_of e m = e.on_line (plain_of e m)
 
+-- the message by which is counted what one needs: with 253 bytes of data at most, as more are refused whatever they need
+abbrev pub counted_of : Message → Message
+counted_of m = message m.address m.function (take 253 m.«data»)
+
 -- 17 data above 252
 abbrev pub too_much : List ℕ → Bool
 too_much «data» = ltb 252 (length «data»)
@@ -57,6 +61,10 @@ no_room needed out = ltb (length out) needed
 -- "writing, field faults first, then 17, then 16"
 abbrev pub write_rules : List ℕ → ℕ → List ℕ → List Rule
 write_rules «data» needed out = 17 when too_much «data» ∷ 16 when no_room needed out ∷ []
+
+-- what an output holds where a message was to be written over its front: at a refusal, what it held
+abbrev pub envelope_output : Envelope → Message → List ℕ → List ℕ
+envelope_output e m out = write_output (first (write_rules m.«data» (length (bytes_of e m)) out)) (bytes_of e m) out
 
 -- what a writer of a message owes: the answer r and the output out'
 abbrev pub WritesEnvelope : Envelope → Message → List ℕ → Written → List ℕ → Type 0

@@ -3,12 +3,12 @@ ghost use Rattle.std.specs.Prelude.{◌≡◌, ◌+◌, ◌-◌, ◌≤◌, leng
 ghost use Rattle.std.proofs.lemmas.List.Edits.{sets};
 ghost use Rattle.wire.specs.Answer.{judged};
 ghost use Rattle.wire.specs.Refusal.{first};
-ghost use Rattle.modbus.specs.Envelope.{Envelope, message_of, content_of, bytes_of, too_short, too_long, too_much, no_room, write_rules, WritesEnvelope};
+ghost use Rattle.modbus.specs.Envelope.{Envelope, message_of, content_of, bytes_of, counted_of, too_short, too_long, too_much, no_room, write_rules, envelope_output, WritesEnvelope};
 
 use wire::{Refusal, Written};
 
 // What is written; the address is TCP's unit.
-#[derive(Clone, Copy)]
+#[derive(Clone, Copy, Debug, PartialEq, Eq)]
 pub struct Message<'a> {
     pub address: u8,
     pub function: u8,
@@ -76,15 +76,13 @@ pub fn write_fault(data: &[u8], needed: usize, out: &[u8]) -> Result<(), Refusal
 pub trait Envelope {
     ghost layout: { Self → Envelope };
 
-    // How many bytes they are; where the data is above 252 bytes, which is refused whatever they are, any number.
+    // How many bytes they are; of more data than 253 bytes, which is refused whatever they are, how many with the first 253.
     fn needed(&self, m: &Message) -> usize
-        ensures { length m.now.«data».now ≤ 252 → result ≡ length (bytes_of (layout self.now) (message_of m.now)) };
+        ensures { result ≡ length (bytes_of (layout self.now) (counted_of (message_of m.now))) };
 
-    // Over the front of out.
+    // Over the front of out, where no rule of writing refuses it.
     fn put(&self, m: &Message, out: &mut [u8])
-        requires small { length m.now.«data».now ≤ 252 }
-        requires room { length (bytes_of (layout self.now) (message_of m.now)) ≤ length out.old }
-        ensures { out.new ≡ sets out.old 0 (bytes_of (layout self.now) (message_of m.now)) };
+        ensures { out.new ≡ envelope_output (layout self.now) (message_of m.now) out.old };
 }
 
 // The envelope, over the front of out.

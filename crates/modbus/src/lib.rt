@@ -7,7 +7,7 @@ ghost use Rattle.std.specs.Prelude.{◌≡◌, ◌+◌, ◌≤◌, length};
 ghost use Rattle.std.proofs.lemmas.List.Edits.{sets};
 ghost use Rattle.wire.specs.Answer.{judged};
 ghost use Rattle.wire.specs.Refusal.{first};
-ghost use Rattle.modbus.specs.Envelope.{message, message_of, bytes_of, WritesEnvelope};
+ghost use Rattle.modbus.specs.Envelope.{message, message_of, bytes_of, counted_of, envelope_output, WritesEnvelope};
 ghost use Rattle.modbus.specs.Rtu.{rtu, rtu_data, rtu_pdu, rtu_rules, read_rtu, bad_crc};
 ghost use Rattle.modbus.specs.Tcp.{tcp, tcp_data, tcp_pdu, tcp_rules, read_tcp, bad_protocol, bad_length};
 
@@ -81,10 +81,13 @@ impl Envelope for InRtu {
     ghost layout = { λ e. rtu };
 
     fn needed(&self, m: &Message) -> usize {
-        m.data.len() + 4
+        wire::front(m.data, 253).len() + 4
     }
 
     fn put(&self, m: &Message, out: &mut [u8]) {
+        if envelope::write_fault(m.data, self.needed(m), out).is_err() {
+            return;
+        }
         m.put(out, 0);
         let n = m.data.len() + 2;
         let crc = checksum::checksum(&out[..n]);
@@ -169,10 +172,13 @@ impl Envelope for InTcp {
     ghost layout = { λ e. tcp e.transaction };
 
     fn needed(&self, m: &Message) -> usize {
-        m.data.len() + 8
+        wire::front(m.data, 253).len() + 8
     }
 
     fn put(&self, m: &Message, out: &mut [u8]) {
+        if envelope::write_fault(m.data, self.needed(m), out).is_err() {
+            return;
+        }
         wire::put_be16(out, 0, self.transaction);
         wire::put_be16(out, 2, 0);
         wire::put_be16(out, 4, (m.data.len() + 2) as u16);

@@ -8,7 +8,7 @@ ghost use Rattle.std.proofs.lemmas.List.Edits.{sets};
 ghost use Rattle.checksum.specs.Sums.{sum_from, lrc};
 ghost use Rattle.wire.specs.Answer.{judged};
 ghost use Rattle.wire.specs.Refusal.{first};
-ghost use Rattle.modbus.specs.Envelope.{message, message_of, content_of, bytes_of, WritesEnvelope};
+ghost use Rattle.modbus.specs.Envelope.{message, message_of, content_of, bytes_of, counted_of, envelope_output, WritesEnvelope};
 ghost use Rattle.modbus_ascii.specs.Hex.{hex, of_hex};
 ghost use Rattle.modbus_ascii.specs.Ascii.{ascii, carriage_return, line_feed, inside, bad_marks, bad_characters, ascii_rules, read_ascii, ascii_output};
 
@@ -123,6 +123,9 @@ impl Envelope for InAscii {
     }
 
     fn put(&self, m: &Message, out: &mut [u8]) {
+        if envelope::write_fault(m.data, self.needed(m), out).is_err() {
+            return;
+        }
         wire::put(out, 0, b':');
         hex::put_byte(out, 1, m.address);
         hex::put_byte(out, 3, m.function);

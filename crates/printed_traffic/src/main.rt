@@ -8,15 +8,40 @@ use sm160_frame::{part_of, read_frame, write_frame};
 use sm160_read_file::{message_of, name_of, read_reply, read_request};
 use sm160_receiver::{Progress, Receiver};
 use std::io;
-use std::io::{Read, Stdout, Write};
+use std::io::{Cursor, Read, Stdin, Stdout, Write};
 use wire::{Refusal, front, put_all, rest};
 
-fn line(mut to: Stdout, text: &[u8]) -> io::Result<()> {
+// Where a read fails, the input ends.
+#[derive(Clone, Copy)]
+struct Input(Stdin);
+
+impl Read for Input {
+    fn read(&mut self, buffer: &mut [u8]) -> io::Result<usize> {
+        Ok(self.0.read(buffer).unwrap_or(0))
+    }
+}
+
+// Where a write fails, what follows it is still tried, and nothing is said of it.
+#[derive(Clone, Copy)]
+struct Output(Stdout);
+
+impl Write for Output {
+    fn write(&mut self, bytes: &[u8]) -> io::Result<usize> {
+        let _ = self.0.write_all(bytes);
+        Ok(bytes.len())
+    }
+
+    fn flush(&mut self) -> io::Result<()> {
+        Ok(())
+    }
+}
+
+fn line(mut to: Output, text: &[u8]) -> io::Result<()> {
     to.write_all(text)?;
     to.write_all(b"\n")
 }
 
-fn refused(mut to: Stdout, refusal: Refusal) -> io::Result<()> {
+fn refused(mut to: Output, refusal: Refusal) -> io::Result<()> {
     writeln!(to, "refused {}", refusal.number())
 }
 
@@ -30,10 +55,13 @@ fn shown(b: u8) -> u8 {
 }
 
 // Up to 16 bytes: in hexadecimal, then as text.
-fn show_line(mut to: Stdout, s: &[u8]) -> io::Result<()> {
+fn show_line(mut to: Output, s: &[u8]) -> io::Result<()> {
     let mut text = [b' '; 16];
     for (c, b) in text.iter_mut().zip(s) {
-        write!(to, "{b:02x} ")?;
+        let mut digits = Cursor::new([0; 2]);
+        write!(digits, "{b:02x}")?;
+        to.write_all(digits.get_ref())?;
+        to.write_all(b" ")?;
         *c = shown(*b);
     }
     to.write_all(b" ")?;
@@ -41,7 +69,7 @@ fn show_line(mut to: Stdout, s: &[u8]) -> io::Result<()> {
 }
 
 // Bytes, 16 a line.
-fn show(to: Stdout, s: &[u8]) -> io::Result<()> {
+fn show(to: Output, s: &[u8]) -> io::Result<()> {
     for part in s.chunks(16) {
         show_line(to, part)?;
     }
@@ -51,7 +79,7 @@ fn show(to: Stdout, s: &[u8]) -> io::Result<()> {
 // A receiver with the buffer that is lent to it. What each call answers is told.
 #[derive(Drop)]
 struct Host<'a> {
-    to: Stdout,
+    to: Output,
     state: Receiver,
     buffer: &'a mut [u8],
 }
@@ -109,7 +137,7 @@ fn rebase(frame: &[u8], out: &mut [u8]) -> Option<usize> {
 const AGREED: usize = 68;
 
 // Where it is not opened, a state that each call refuses with 20.
-fn opened(to: Stdout, session: u16, largest: usize) -> io::Result<Receiver> {
+fn opened(to: Output, session: u16, largest: usize) -> io::Result<Receiver> {
     match sm160_receiver::open(session, largest) {
         Ok(state) => Ok(state),
         Err(refusal) => {
@@ -134,7 +162,7 @@ fn at(count: usize) -> Receiver {
 }
 
 // A buffer is lent with 7 in each byte.
-fn tell_stored(to: Stdout, buffer: &[u8]) -> io::Result<()> {
+fn tell_stored(to: Output, buffer: &[u8]) -> io::Result<()> {
     if buffer.iter().all(|b| *b == 7) {
         line(to, b"nothing stored")
     } else {
@@ -143,7 +171,7 @@ fn tell_stored(to: Stdout, buffer: &[u8]) -> io::Result<()> {
 }
 
 // Session 1: the agreement on the frame's size, asked for and replied.
-fn agreement(to: Stdout, asked: &[u8], replied: &[u8]) -> io::Result<()> {
+fn agreement(to: Output, asked: &[u8], replied: &[u8]) -> io::Result<()> {
     line(to, b"session 1 as printed")?;
     let mut buffer = [7u8; 318];
     let mut host = Host {
@@ -167,7 +195,7 @@ struct Session<'a> {
     last: &'a [u8],
 }
 
-fn as_printed(to: Stdout, s: Session) -> io::Result<()> {
+fn as_printed(to: Output, s: Session) -> io::Result<()> {
     line(to, b"session 2 as printed")?;
     let mut buffer = [7u8; 318];
     let mut host = Host {
@@ -182,7 +210,7 @@ fn as_printed(to: Stdout, s: Session) -> io::Result<()> {
 }
 
 // What the request of two frames asks for.
-fn asked_for(mut to: Stdout, s: Session) -> io::Result<()> {
+fn asked_for(mut to: Output, s: Session) -> io::Result<()> {
     let mut bytes = [0u8; 73];
     put_all(&mut bytes, 0, part_of(s.asking));
     put_all(&mut bytes, 68, part_of(s.asked));
@@ -196,7 +224,7 @@ fn asked_for(mut to: Stdout, s: Session) -> io::Result<()> {
 }
 
 // What the reply says, and how many bytes it brings.
-fn tell_reply(mut to: Stdout, bytes: &[u8]) -> io::Result<()> {
+fn tell_reply(mut to: Output, bytes: &[u8]) -> io::Result<()> {
     match read_reply(bytes) {
         Ok(status) => {
             writeln!(to, "status {status}")?;
@@ -207,7 +235,7 @@ fn tell_reply(mut to: Stdout, bytes: &[u8]) -> io::Result<()> {
     }
 }
 
-fn counted_from_start(to: Stdout, s: Session) -> io::Result<()> {
+fn counted_from_start(to: Output, s: Session) -> io::Result<()> {
     line(
         to,
         b"counted from START, then the last again, then the first alone",
@@ -228,7 +256,7 @@ fn counted_from_start(to: Stdout, s: Session) -> io::Result<()> {
     host.turn_plain(s.first)
 }
 
-fn above_the_limit(to: Stdout, s: Session) -> io::Result<()> {
+fn above_the_limit(to: Output, s: Session) -> io::Result<()> {
     line(
         to,
         b"at a receiver that was opened with 67, and at one with 241",
@@ -245,7 +273,7 @@ fn above_the_limit(to: Stdout, s: Session) -> io::Result<()> {
     host.turn_rebased(s.first)
 }
 
-fn from_141(to: Stdout, s: Session) -> io::Result<()> {
+fn from_141(to: Output, s: Session) -> io::Result<()> {
     line(
         to,
         b"at 141, to the end of the buffer, and the last again; then with one byte less of it",
@@ -270,7 +298,7 @@ fn from_141(to: Stdout, s: Session) -> io::Result<()> {
     less.turn(s.last)
 }
 
-fn start_again(to: Stdout, s: Session) -> io::Result<()> {
+fn start_again(to: Output, s: Session) -> io::Result<()> {
     line(
         to,
         b"START over a file under way, then a refused START, and the file goes on",
@@ -288,14 +316,14 @@ fn start_again(to: Stdout, s: Session) -> io::Result<()> {
     host.turn_rebased(s.second)
 }
 
-fn tell_read(mut to: Stdout, bytes: &[u8]) -> io::Result<()> {
+fn tell_read(mut to: Output, bytes: &[u8]) -> io::Result<()> {
     match read_frame(bytes) {
         Ok(f) => writeln!(to, "offset {}", f.offset),
         Err(refusal) => refused(to, refusal),
     }
 }
 
-fn write_and_read(mut to: Stdout, part: &[u8]) -> io::Result<()> {
+fn write_and_read(mut to: Output, part: &[u8]) -> io::Result<()> {
     let mut out = [0u8; 300];
     match write_frame(2, 5, sm160_frame::END, part, &mut out) {
         Ok(n) => {
@@ -306,7 +334,7 @@ fn write_and_read(mut to: Stdout, part: &[u8]) -> io::Result<()> {
     }
 }
 
-fn frames(to: Stdout) -> io::Result<()> {
+fn frames(to: Output) -> io::Result<()> {
     let bytes = [7u8; 241];
     line(to, b"a part of 240, a part of 241, 12 bytes, 11 bytes")?;
     write_and_read(to, &bytes[..240])?;
@@ -317,7 +345,7 @@ fn frames(to: Stdout) -> io::Result<()> {
 }
 
 // The eight frames, one after another.
-fn feed(to: Stdout, all: &[u8]) -> io::Result<()> {
+fn feed(to: Output, all: &[u8]) -> io::Result<()> {
     agreement(to, front(all, 34), front(rest(all, 34), 43))?;
     let reply = rest(all, 174);
     let session = Session {
@@ -337,9 +365,9 @@ fn feed(to: Stdout, all: &[u8]) -> io::Result<()> {
     frames(to)
 }
 
-// Bytes that do not come in stay 0. Where a write fails, what follows it is not told.
+// Bytes that do not come in stay 0.
 fn main(rt: HostRuntime) {
     let mut all = [0u8; 467];
-    let _ = rt.stdin().read_exact(&mut all);
-    let _ = feed(rt.stdout(), &all);
+    let _ = Input(rt.stdin()).read_exact(&mut all);
+    let _ = feed(Output(rt.stdout()), &all);
 }

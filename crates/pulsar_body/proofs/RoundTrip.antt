@@ -17,7 +17,7 @@ use Rattle.wire.specs.declared.refusals.Refusal.{Refusal}
 use Rattle.std.specs.Prelude.{Option, None, Some, Result, Ok, Err}
 use Rattle.wire.specs.Writes.{Written, Writes}
 use Rattle.wire.proofs.Answer.{accepted_as, named_first}
-use Rattle.wire.proofs.Bools.{or_neither, neither_or}
+use Rattle.wire.proofs.Bools.{or_neither, neither_or, true_T}
 use Rattle.wire.proofs.Rules.{first_none, none_first, numbered_append, named_append, none_append, none_both, in_order, first_named}
 use Rattle.wire.proofs.Writes.{wrote_front, wrote_all}
 use Rattle.reading.specs.Values.{bad_width}
@@ -34,6 +34,13 @@ numbered_writing due width mask vs faults needed room t = numbered_append faults
 pub named_writing : (due : Values) (width mask : ℕ) (vs : List ℕ) (faults : List Rule) (needed room : ℕ) → T (named faults)
     → T (named (values_rules due width mask vs ++ faults ++ room_rules needed room))
 named_writing due width mask vs faults needed room t = named_append faults (room_rules needed room) t tt
+
+-- so the number of what is refused is the rule's
+pub writing_tells : (due : Values) (width mask : ℕ) (vs : List ℕ) (faults : List Rule) (needed room : ℕ) → named faults ≡ true
+    → (first (values_rules due width mask vs ++ faults ++ room_rules needed room) ≡ 0 → ⊥)
+    → number_of (refusal (first (values_rules due width mask vs ++ faults ++ room_rules needed room))) ≡ first (values_rules due width mask vs ++ faults ++ room_rules needed room)
+writing_tells due width mask vs faults needed room e =
+    first_named (values_rules due width mask vs ++ faults ++ room_rules needed room) (named_writing due width mask vs faults needed room (true_T (named faults) e))
 
 -- what is not refused has room
 pub writing_fits : (due : Values) (width mask : ℕ) (vs : List ℕ) (faults : List Rule) (needed room : ℕ) → T (numbered faults)

@@ -15,6 +15,7 @@ use Rattle.pulsar_body.proofs.date_fault.Reads as date-fault
 use Rattle.pulsar_body.proofs.body_fault.Reads as body-fault
 use Rattle.pulsar_body.proofs.values_fault.Reads as values-fault
 use Rattle.pulsar_body.proofs.room_fault.Reads as room-fault
+use Rattle.pulsar_body.proofs.FormFormed.form.Reads as form-form
 
 pub not_one_unique : Unique not-one.Post (λ κs r s. r)
 not_one_unique κs a r r' s s' e e' = e ∙ sym e'
@@ -42,3 +43,7 @@ room_fault_unique κs a r r' s s' e e' = e ∙ sym e'
 
 pub write_body_unique : (T : _) (l : _) (c : _) (b : _) (d : _) (f : _) (e : _) (k : _) (h : _) → Unique {Y = λ κs. Written × List ℕ} (write-body.Post T l c b d f e k h) (λ κs r s. (r, s.1.1.1.1.0.now))
 write_body_unique T l c b d f e k h κs a r r' s s' w w' = writes_once _ _ _ _ _ _ _ w w'
+
+-- conversions, and the methods of traits, as each impl has them
+pub form_form_unique : Unique form-form.Post (λ κs r s. r)
+form_form_unique κs a r r' s s' e e' = e ∙ sym e'

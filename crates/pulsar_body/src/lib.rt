@@ -5,7 +5,7 @@ ghost use Rattle.std.specs.Prelude.{ℕ, ◌≡◌, ◌≤◌, false, true, ◌*
 ghost use Rattle.wire.specs.Answer.{judged};
 ghost use Rattle.wire.specs.Numbered.{refusal};
 ghost use Rattle.std.proofs.lemmas.List.Edits.{sets};
-ghost use Rattle.wire.specs.Refusal.{Rule, first, numbered};
+ghost use Rattle.wire.specs.Refusal.{Rule, first, named};
 ghost use Rattle.wire.specs.Writes.{Writes};
 ghost use Rattle.reading.specs.Mask.{channel_count};
 ghost use Rattle.reading.specs.Values.{uneven, bad_width};
@@ -67,7 +67,7 @@ pub trait Body: Formed + Copy {
     fn put_head(self, out: &mut [u8])
         ensures { out.new ≡ sets out.old 0 (head self) };
 
-    ghost faults_numbered: { (x : Self) (mask : ℕ) → numbered (faults x mask) ≡ true };
+    ghost faults_named: { (x : Self) (mask : ℕ) → named (faults x mask) ≡ true };
 
     ghost head_length: { (x : Self) → length (head x) ≡ (Self.the_form x).head };
 

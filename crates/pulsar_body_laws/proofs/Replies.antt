@@ -26,7 +26,7 @@ use Rattle.date.specs.declared.DateTime.{DateTime}
 use Rattle.date.proofs.Laws.{date_writes_again, date_some, no_date_lem, no_date_is, no_date_bytes}
 use Rattle.pulsar_body.specs.Fields.{mask_of, date_in, not_one, not_date}
 use Rattle.pulsar_body.specs.Body.{bad_values, body_rules, reading_answer}
-use Rattle.pulsar_body.proofs.RoundTrip.{named_writing, body_back, head_within, body_again, reading_accepts, reading_first, number_kept}
+use Rattle.pulsar_body.proofs.RoundTrip.{numbered_writing, body_back, head_within, body_again, reading_accepts, reading_first, number_kept}
 use Rattle.pulsar_reply.specs.Layout.{function_from, function_of, function_number, head_bytes, archive_bytes, reply_bytes, head_length, values_after, form_of, first_of, clock_of, reply_of, values_of}
 use Rattle.pulsar_reply.specs.Fields.{not_clock, not_zero}
 use Rattle.pulsar_reply.specs.Reading.{field_rules, reply_rules, read_reply, told_reply}
@@ -254,5 +254,5 @@ pub write_reply_first : (q : Reply) (width mask : ℕ) (vs out : List ℕ) (r : 
     → FirstInOrder (writing_rules q width mask vs (length out)) (told_written r).number
 write_reply_first q width mask vs out r out' w =
     let bs = reply_bytes q vs in
-    let numbers = named_writing (values_after (function_of q)) width mask vs (field_faults q mask) (length bs) (length out) (named_faults q mask) in
+    let numbers = numbered_writing (values_after (function_of q)) width mask vs (field_faults q mask) (length bs) (length out) (named_numbered (field_faults q mask) (named_faults q mask)) in
     written_first (writing_rules q width mask vs (length out)) bs out r out' numbers w

@@ -31,7 +31,7 @@ use Rattle.date.proofs.Laws.{date_writes_again}
 use Rattle.pulsar_body.specs.Fields.{mask_of, date_in, no_channel, not_one, not_date}
 use Rattle.pulsar_body.specs.Body.{bad_values, body_rules, reading_answer}
 use Rattle.pulsar_body.specs.declared.Values.TheVariants.{Channels}
-use Rattle.pulsar_body.proofs.RoundTrip.{named_writing, body_back, head_within, body_again, reading_accepts, reading_first, number_kept}
+use Rattle.pulsar_body.proofs.RoundTrip.{numbered_writing, body_back, head_within, body_again, reading_accepts, reading_first, number_kept}
 use Rattle.pulsar_request.specs.Layout.{function_from, function_of, function_number, head_bytes, archive_bytes, request_bytes, head_length, values_after, form_of, values_mask, type_of, first_of, last_of, index_of, request_of, values_of}
 use Rattle.pulsar_request.specs.Reading.{bad_type, field_rules, request_rules, read_request, told_request}
 use Rattle.pulsar_request.specs.Writing.{field_faults, writing_rules}
@@ -242,5 +242,5 @@ pub write_request_first : (q : Request) (width : ℕ) (vs out : List ℕ) (r : W
     → FirstInOrder (writing_rules q width vs (length out)) (told_written r).number
 write_request_first q width vs out r out' w =
     let bs = request_bytes q vs in
-    let numbers = named_writing (values_after (function_of q)) width (values_mask q) vs (field_faults q) (length bs) (length out) (named_faults q) in
+    let numbers = numbered_writing (values_after (function_of q)) width (values_mask q) vs (field_faults q) (length bs) (length out) (named_numbered (field_faults q) (named_faults q)) in
     written_first (writing_rules q width vs (length out)) bs out r out' numbers w

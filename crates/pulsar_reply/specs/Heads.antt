@@ -26,15 +26,18 @@ length_head (P.Archive a) = simp (length-append, length_le)
 length_head P.Parameter = refl
 length_head P.ParameterWritten = refl
 
+pub head_le : (f : Function) → head_length f ≤ 10
+head_le F.Error = omega arith
+head_le F.Channels = omega arith
+head_le F.ChannelsWritten = omega arith
+head_le F.Clock = omega arith
+head_le F.ClockSet = omega arith
+head_le F.Archive = omega arith
+head_le F.Parameter = omega arith
+head_le F.ParameterWritten = omega arith
+
 pub head_few : (f : Function) → head_length f ≤ 245
-head_few F.Error = omega arith
-head_few F.Channels = omega arith
-head_few F.ChannelsWritten = omega arith
-head_few F.Clock = omega arith
-head_few F.ClockSet = omega arith
-head_few F.Archive = omega arith
-head_few F.Parameter = omega arith
-head_few F.ParameterWritten = omega arith
+head_few f = omega (arith, head_le f)
 
 pub named_faults : (q : Reply) (mask : ℕ) → T (named (field_faults q mask))
 named_faults (P.Error n) mask = tt

@@ -8,7 +8,6 @@ ghost use Rattle.std.specs.Prelude.{◌≡◌, length};
 ghost use Rattle.std.proofs.lemmas.List.Edits.{sets};
 ghost use Rattle.wire.specs.Writes.{Writes};
 ghost use Rattle.wire.proofs.Bools.{T_true};
-ghost use Rattle.wire.proofs.Rules.{named_numbered};
 ghost use Rattle.wire.specs.Refusal.{first};
 ghost use Rattle.pulsar_reply.specs.Layout.{function_from, function_of, function_number, form_of, clock_of, archive_of, reply_of, archive_bytes, head_bytes, reply_bytes, values_of};
 ghost use Rattle.pulsar_reply.specs.Reading.{read_reply};
@@ -190,7 +189,7 @@ impl Body for Reply {
 
     ghost head = { head_bytes };
 
-    ghost faults_numbered = { λ reply mask. T_true _ (named_numbered (field_faults reply mask) (named_faults reply mask)) };
+    ghost faults_named = { λ reply mask. T_true _ (named_faults reply mask) };
 
     ghost head_length = { length_head };
 

@@ -24,14 +24,17 @@ length_head (Q.ReadArchive a) = simp (length-append, length_le)
 length_head (Q.ReadParameter index) = length_le 2 index
 length_head (Q.WriteParameter index) = length_le 2 index
 
+pub head_le : (f : Function) → head_length f ≤ 18
+head_le F.ReadChannels = omega arith
+head_le F.WriteChannels = omega arith
+head_le F.ReadClock = omega arith
+head_le F.SetClock = omega arith
+head_le F.ReadArchive = omega arith
+head_le F.ReadParameter = omega arith
+head_le F.WriteParameter = omega arith
+
 pub head_few : (f : Function) → head_length f ≤ 245
-head_few F.ReadChannels = omega arith
-head_few F.WriteChannels = omega arith
-head_few F.ReadClock = omega arith
-head_few F.SetClock = omega arith
-head_few F.ReadArchive = omega arith
-head_few F.ReadParameter = omega arith
-head_few F.WriteParameter = omega arith
+head_few f = omega (arith, head_le f)
 
 pub named_faults : (q : Request) → T (named (field_faults q))
 named_faults (Q.ReadChannels mask) = tt

@@ -8,7 +8,6 @@ ghost use Rattle.std.specs.Prelude.{◌≡◌, length};
 ghost use Rattle.std.proofs.lemmas.List.Edits.{sets};
 ghost use Rattle.wire.specs.Writes.{Writes};
 ghost use Rattle.wire.proofs.Bools.{T_true};
-ghost use Rattle.wire.proofs.Rules.{named_numbered};
 ghost use Rattle.wire.specs.Refusal.{first};
 ghost use Rattle.pulsar_request.specs.Layout.{function_from, function_of, function_number, form_of, archive_of, request_of, archive_bytes, head_bytes, request_bytes, values_of};
 ghost use Rattle.pulsar_request.specs.Reading.{read_request};
@@ -178,7 +177,7 @@ impl Body for Request {
 
     ghost head = { head_bytes };
 
-    ghost faults_numbered = { λ request mask. T_true _ (named_numbered (field_faults request) (named_faults request)) };
+    ghost faults_named = { λ request mask. T_true _ (named_faults request) };
 
     ghost head_length = { length_head };
 

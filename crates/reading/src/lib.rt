@@ -47,6 +47,13 @@ impl From<Kind> for u8 {
     }
 }
 
+// A kind's number, as the card has it: the conversion under a name of its own, of which `number_of_unique` speaks.
+pub fn number_of(kind: Kind) -> u8
+    ensures { result ≡ number_of kind }
+{
+    u8::from(kind)
+}
+
 // The kind of a number of two bits. Of a greater one it is the last kind, as `kind_from` of specs has it; a From would promise that none is lost.
 pub fn kind_from(number: u8) -> Kind
     ensures { result ≡ kind_from number }

@@ -4,10 +4,11 @@ use mathlib.Core.Path.{◌≡◌, refl}
 use mathlib.Core.List.{List, ◌++◌}
 use Prim.Native.Nat.{ℕ}
 use Rattle.wire.specs.Refusal.{Rule, NoneHolds, FirstInOrder}
-use Rattle.std.specs.Prelude.{Ok}
-use Rattle.wire.specs.Answer.{refuse}
+use Rattle.std.specs.Prelude.{Result, Ok}
+use Rattle.wire.specs.Answer.{refuse, judged, told_judged}
 use Rattle.wire.specs.Writes.{Written, told_written}
-use Rattle.wire.proofs.Answer.{named_first}
+use Rattle.wire.specs.declared.refusals.Refusal.{Refusal}
+use Rattle.wire.proofs.Answer.{named_first, judged_first}
 use Rattle.wire.proofs.Rules.{refusal_law, none_append, none_both, first_none, none_first}
 use Rattle.wire.proofs.Writes.{written_first}
 use Rattle.sm160_datagram.specs.Layout.{type_of}
@@ -15,9 +16,14 @@ use Rattle.sm160_datagram.specs.Reading.{datagram_rules, datagram_fault, read_da
 use Rattle.sm160_datagram.specs.Writing.{write_rules, WritesDatagram}
 use Rattle.sm160_datagram.specs.Layout.{datagram_bytes}
 
-pub datagram_fault_first : (d : List ℕ) → FirstInOrder (datagram_rules d) (datagram_fault d)
+pub datagram_number_first : (d : List ℕ) → FirstInOrder (datagram_rules d) (datagram_fault d)
 unfolding datagram_fault
-datagram_fault_first d = refusal_law (datagram_rules d) tt
+datagram_number_first d = refusal_law (datagram_rules d) tt
+
+-- r is what `datagram_fault` answers, and `fault_of`
+pub datagram_fault_first : (d : List ℕ) (r : Result Unit Refusal) → r ≡ judged tt (datagram_fault d) → FirstInOrder (datagram_rules d) (told_judged r).number
+unfolding datagram_fault
+datagram_fault_first d r e = judged_first (datagram_rules d) r tt e
 
 pub read_datagram_first : (d : List ℕ) → FirstInOrder (datagram_rules d) (told_datagram_read (read_datagram d)).number
 unfolding read_datagram datagram_fault

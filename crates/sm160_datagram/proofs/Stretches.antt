@@ -1,6 +1,6 @@
 -- Two stretches as one: what the code reads from either and gathers from both, the CRC-32 over both in turn, and the lengths judged without a sum.
 -- Assumes nothing.
-use mathlib.Core.Path.{◌≡◌, refl, sym, ap, ◌∙◌}
+use mathlib.Core.Path.{◌≡◌, refl, sym, ap, ap₂, ◌∙◌}
 use mathlib.Core.Bool.{Bool, true, false, not, ◌||◌}
 use mathlib.Core.List.{List, [], ◌∷◌, ◌++◌}
 use Prim.Native.Nat.{ℕ, zero, suc, ◌+◌, ◌*◌, ◌-◌, ◌≤◌}
@@ -8,13 +8,14 @@ use native.Mathlib.Nat.{sub-zero, zero-sub, suc-sub-suc}
 use native.Mathlib.Omega.{arith}
 use borrow.Author.Tests.{ltb-true, ltb-false, eqb-true, eqb-false, eq-eqb, ne_eqb}
 use lib.Dec.{ltb, eqb}
-use lib.ListN.{length, take, drop, get_or, replicate, length-drop}
+use lib.ListN.{length, take, drop, get_or, replicate, length-drop, drop_of_length-le, get_or-append}
 use lib.Seq.{sets, take-nil, drop-nil}
 use Rattle.checksum.specs.Crc32.{crc32, crc32_from}
 use Rattle.checksum.proofs.Crc32.{crc32_append}
 use mir.Syntax.{w32, w64}
 use Rattle.std.specs.Int.{from_le_bytes}
 use Rattle.wire.specs.Numbers.{number, of_le, field}
+use Rattle.wire.proofs.Fields.{field_take}
 use Rattle.wire.proofs.Turns.{field_of_rest}
 use Rattle.wire.proofs.Writing.{sets_then, over_zeros}
 use Rattle.sm160_datagram.specs.Layout.{crc_due}
@@ -37,6 +38,31 @@ pub gathered : (held part out : List ℕ) (at : ℕ)
 gathered held part out at =
     sets_then out (drop at held) (drop (at - length held) part) (length held - at) (length-drop at held)
     ∙ ap (sets out 0) (sym (drop_two at held part))
+
+-- ---- what one of the stretches has alone
+-- the first w bytes, taken as they stand
+pub taken_field : (s : List ℕ) (w : ℕ) → w ≤ length s → take w s ≡ field s 0 w
+taken_field s w h = sym (field_take s 0 w (omega arith))
+
+field_front : (held part : List ℕ) (at w : ℕ) → at + w ≤ length held → field held at w ≡ field (held ++ part) at w
+unfolding field
+field_front held part at zero h = refl
+field_front held part at (suc w) h =
+    ap₂ (λ (x : ℕ) (l : List ℕ). x ∷ l) (sym (get_or-append held part 0 at (omega arith))) (field_front held part (at + 1) w (omega arith))
+
+no_bytes : (s t : List ℕ) (at : ℕ) → field s at 0 ≡ field t at 0
+unfolding field
+no_bytes s t at = refl
+
+pub in_first : (held part : List ℕ) (at w left : ℕ) → left ≡ length held - at → w ≤ left → field (drop at held) 0 w ≡ field (held ++ part) at w
+in_first held part at zero left e h = field_of_rest held at 0 ∙ no_bytes held (held ++ part) at
+in_first held part at (suc w) left e h = field_of_rest held at (suc w) ∙ field_front held part at (suc w) (omega arith)
+
+pub in_second : (held part : List ℕ) (at w left : ℕ) → left ≡ length held - at → left ≡ 0 → field (drop (at - length held) part) 0 w ≡ field (held ++ part) at w
+in_second held part at w left e none =
+    ap (λ (l : List ℕ). field l 0 w)
+    (sym (drop_two at held part ∙ ap (λ (l : List ℕ). l ++ drop (at - length held) part) (drop_of_length-le held (omega arith))))
+    ∙ field_of_rest (held ++ part) at w
 
 -- so the w bytes that are gathered over w zeros are those of both stretches
 pub gathered_field : (held part : List ℕ) (at w : ℕ)

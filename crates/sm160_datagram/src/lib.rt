@@ -15,6 +15,18 @@ use wire::{Refusal, Written};
 
 // ---- two stretches as one
 
+// The first W bytes; one past the end is 0.
+fn first_bytes<const W: usize>(bytes: &[u8]) -> [u8; W]
+    ensures { result ≡ field bytes.now 0 W }
+{
+    if let Some(first) = bytes.first_chunk() {
+        return *first;
+    }
+    let mut first = [0u8; W];
+    wire::put_all(&mut first, 0, bytes);
+    first
+}
+
 // Bytes that are held and a part that follows them, as if joined.
 #[derive(Drop)]
 struct Joined<'a> {
@@ -45,17 +57,21 @@ impl<'a> Joined<'a> {
         }
     }
 
-    // The W bytes from a place on, for a number that the cut may go through.
+    // The W bytes from a place on, for a number that the cut may go through: taken as they stand where one of the two has them all, and else gathered.
     fn field<const W: usize>(&self, at: usize) -> [u8; W]
         ensures { result ≡ field self.now at W }
     {
+        let left = wire::minus(self.held.len(), at);
+        if W <= left {
+            return first_bytes(wire::rest(self.held, at));
+        }
+        let behind = wire::rest(self.part, wire::minus(at, self.held.len()));
+        if left == 0 {
+            return first_bytes(behind);
+        }
         let mut bytes = [0u8; W];
         wire::put_all(&mut bytes, 0, wire::rest(self.held, at));
-        wire::put_all(
-            &mut bytes,
-            wire::minus(self.held.len(), at),
-            wire::rest(self.part, wire::minus(at, self.held.len())),
-        );
+        wire::put_all(&mut bytes, left, behind);
         bytes
     }
 

@@ -132,6 +132,18 @@ fn bad_flags(flags: u16) -> bool
     has(QA, flags) | (QA + START + END < flags)
 }
 
+fn bad_part_in(bytes: &[u8], limit: usize) -> bool
+    ensures { result ≡ bad_part limit (part_of bytes.now) }
+{
+    bad_part(part_of(bytes), limit)
+}
+
+fn bad_flags_in(bytes: &[u8]) -> bool
+    ensures { result ≡ bad_flags (flags_of bytes.now) }
+{
+    bad_flags(flags_of(bytes))
+}
+
 // The first rule of 21 to 25 that the frame breaks, with a limit for its part.
 pub fn frame_fault(bytes: &[u8], limit: usize) -> Result<(), Refusal>
     ensures { result ≡ judged tt (frame_fault limit bytes.now) }
@@ -142,13 +154,13 @@ pub fn frame_fault(bytes: &[u8], limit: usize) -> Result<(), Refusal>
     if wrong_size(bytes) {
         return Err(Refusal::WrongSize);
     }
-    if bad_part(part_of(bytes), limit) {
+    if bad_part_in(bytes, limit) {
         return Err(Refusal::BadPart);
     }
     if wrong_crc(bytes) {
         return Err(Refusal::WrongPartCrc);
     }
-    if bad_flags(flags_of(bytes)) {
+    if bad_flags_in(bytes) {
         return Err(Refusal::BadFlags);
     }
     Ok(())

@@ -15,7 +15,7 @@ use Rattle.std.proofs.lemmas.Result.{err_from_is_err_and}
 use Rattle.wire.specs.Writes.{Written, Writes, told_written}
 use Rattle.wire.specs.declared.refusals.Refusal.{Refusal}
 use Rattle.wire.proofs.Answer.{named_first, none_judged, accepted_as}
-use Rattle.wire.proofs.Rules.{first_none, none_first}
+use Rattle.wire.proofs.Rules.{first_none, first_named, none_first}
 use Rattle.wire.proofs.Writes.{written_first, writes_judged}
 use Rattle.sm160_datagram.specs.Layout.{type_of, options_of, data_of}
 use Rattle.sm160_datagram.specs.Reading.{datagram_fault}
@@ -97,7 +97,7 @@ module _ (text bs out : List ℕ) (n : ℕ) (e : length bs ≡ n) where
   pub writes_handed : (r : Written) (d : Refusal) → IsErr r × IsErrAnd r (λ k. k ≡ d) → Err d ≡ judged n (first asked_for) → Writes (first (write_rules text bs out)) bs out r out
   writes_handed r d exit j =
       let p = err_from_is_err_and r exit.1 in
-      rw (p.1, p.2) (writes_judged bs out n (Err d) (first (write_rules text bs out)) d (j ∙ ap (judged n) same_rules) refl)
+      rw (p.1, p.2) (writes_judged bs out n (Err d) (first (write_rules text bs out)) d (j ∙ ap (judged n) same_rules) refl (first_named (write_rules text bs out) tt))
 
   pub may_write : (m : ℕ) → Ok m ≡ judged n (first asked_for) → MayWrite text bs out n m
   may_write m j =

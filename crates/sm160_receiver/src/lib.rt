@@ -202,9 +202,27 @@ impl Receiver {
             Progress::Held(reached)
         }
     }
+
+    // One frame, judged and then taken. What refuses it changes neither the state nor the buffer.
+    fn take(&mut self, frame: &[u8], buffer: &mut [u8]) -> Result<Progress, Refusal>
+        ensures { Took self.old frame.now buffer.old result self.new buffer.new }
+    {
+        self.fault(buffer, frame)?;
+        file_fault(buffer, frame)?;
+        let taken = self.accept(frame, buffer);
+        Ok(taken)
+    }
 }
 
-// One frame, at a receiver that is lent to the call and updated there. A refusal changes neither the state nor the buffer.
+// One frame. A refusal changes neither the state nor the buffer.
+pub fn receive(mut state: Receiver, frame: &[u8], buffer: &mut [u8]) -> Received
+    ensures { Took state frame.now buffer.old result.answer result.state buffer.new }
+{
+    let answer = state.take(frame, buffer);
+    Received { answer, state }
+}
+
+// One frame, at a receiver that is lent to the call and updated there.
 pub fn receive_lent(
     state: &mut Receiver,
     frame: &[u8],
@@ -212,17 +230,9 @@ pub fn receive_lent(
 ) -> Result<Progress, Refusal>
     ensures { Took state.old frame.now buffer.old result state.new buffer.new }
 {
-    state.fault(buffer, frame)?;
-    file_fault(buffer, frame)?;
-    Ok(state.accept(frame, buffer))
-}
-
-// One frame.
-pub fn receive(mut state: Receiver, frame: &[u8], buffer: &mut [u8]) -> Received
-    ensures { Took state frame.now buffer.old result.answer result.state buffer.new }
-{
-    let answer = receive_lent(&mut state, frame, buffer);
-    Received { answer, state }
+    let received = receive(*state, frame, buffer);
+    *state = received.state;
+    received.answer
 }
 
 // One frame, at a receiver that is given by its plain fields, as `of_receive_plain` in demand3 names them.
@@ -236,11 +246,12 @@ pub fn receive_plain(
 ) -> Received
     ensures { Took (standing (opened session limit) under_way count) frame.now buffer.old result.answer result.state buffer.new }
 {
-    let state = Receiver {
+    let mut state = Receiver {
         session,
         limit,
         under_way,
         count,
     };
-    receive(state, frame, buffer)
+    let answer = receive_lent(&mut state, frame, buffer);
+    Received { answer, state }
 }

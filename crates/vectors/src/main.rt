@@ -78,8 +78,18 @@ fn tell(mut to: Stdout, case: Case, out: &mut [u8]) -> io::Result<()> {
     }
 }
 
+// Where a read fails, the input ends.
+#[derive(Clone, Copy)]
+struct Input(Stdin);
+
+impl Read for Input {
+    fn read(&mut self, buffer: &mut [u8]) -> io::Result<usize> {
+        Ok(self.0.read(buffer).unwrap_or(0))
+    }
+}
+
 // The first n bytes of a buffer, as they come in.
-fn filled<'a>(mut from: Stdin, buffer: &'a mut [u8], n: usize) -> io::Result<&'a mut [u8]> {
+fn filled<'a>(mut from: Input, buffer: &'a mut [u8], n: usize) -> io::Result<&'a mut [u8]> {
     let m = n.min(buffer.len());
     let part = &mut buffer[..m];
     from.read_exact(part)?;
@@ -88,7 +98,7 @@ fn filled<'a>(mut from: Stdin, buffer: &'a mut [u8], n: usize) -> io::Result<&'a
 
 // A case of whose head so many bytes have come, and the byte string that its call may change.
 fn read_case<'a>(
-    mut from: Stdin,
+    mut from: Input,
     mut head: [u8; 6],
     came: usize,
     given: &'a mut [u8],
@@ -111,7 +121,7 @@ fn read_case<'a>(
 
 // Reads one case and answers it. False where there is no next one.
 fn answer_one(
-    mut from: Stdin,
+    mut from: Input,
     mut to: Stdout,
     given: &mut [u8],
     out: &mut [u8],
@@ -136,7 +146,7 @@ fn answer_one(
 // There is room for 255 numbers and for byte strings of any length that a case can say. A proved loop has to end, and nothing says that the
 // input does: there are more turns than a run uses up.
 fn main(rt: HostRuntime) {
-    let from = rt.stdin();
+    let from = Input(rt.stdin());
     let to = rt.stdout();
     let mut given = [0u8; 67575];
     let mut out = [0u8; 65535];

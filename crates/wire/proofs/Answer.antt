@@ -1,6 +1,6 @@
 -- What a function answers that judges its input by rules: at a refusal, at none, and demand 1 of the number that is told.
 -- Assumes nothing.
-use mathlib.Core.Path.{◌≡◌, refl, sym, ap, ◌∙◌}
+use mathlib.Core.Path.{◌≡◌, refl, sym, ap, ◌∙◌, subst}
 use mathlib.Core.Bool.{Bool, true, false}
 use mathlib.Core.List.{List}
 use Prim.Native.Nat.{ℕ, zero, suc}
@@ -8,7 +8,7 @@ use native.Mathlib.Omega.{arith}
 use lib.Dec.{T}
 use Rattle.std.specs.Prelude.{Result, Ok, Err, IsErr, IsErrAnd}
 use Rattle.std.proofs.lemmas.Result.{err_from_is_err_and}
-use Rattle.wire.specs.Answer.{answered, judged}
+use Rattle.wire.specs.Answer.{answered, judged, refuse as refused_by, told_judged}
 use Rattle.wire.specs.Numbered.{number_of, refusal}
 use Rattle.wire.specs.Refusal.{Rule, pick, first, numbered, named, FirstInOrder}
 use Rattle.wire.specs.declared.refusals.Refusal.{Refusal}
@@ -40,6 +40,24 @@ module _ {A : Type 0} (x : A) where
   pub judged_none : (n : ℕ) → n ≡ 0 → judged x n ≡ Ok x
   judged_none n z = ap (judged x) z
 
+-- ---- of any way to refuse and to accept
+module _ {A : Type 0} (refuse : ℕ → A) (accept : A) where
+  -- where no rule holds
+  pub answered_none : (n : ℕ) → n ≡ 0 → answered refuse accept n ≡ accept
+  answered_none n z = ap (answered refuse accept) z
+
+  -- `told` gives the number of an answer, 0 for none
+  module _ (told : A → ℕ) (says : (n : ℕ) → told (refuse n) ≡ n) where
+    -- an answer that tells no refusal is what is accepted, and no rule holds
+    pub answered_accepted : (n : ℕ) (a : A) → answered refuse accept n ≡ a → told a ≡ 0 → (n ≡ 0) × (accept ≡ a)
+    answered_accepted zero a e z = (refl, e)
+    answered_accepted (suc n) a e z = absurd (let k : suc n ≡ 0 = sym (says (suc n)) ∙ ap told e ∙ z in omega arith)
+
+    -- the number that is told is the first rule's
+    pub answered_told : told accept ≡ 0 → (n : ℕ) → n ≡ told (answered refuse accept n)
+    answered_told z zero = sym z
+    answered_told z (suc n) = sym (says (suc n))
+
 -- ---- demand 1
 module _ {A : Type 0} (refuse : ℕ → A) (accept : A) (told : A → ℕ) where
   tells : (rules : List Rule) → ((n : ℕ) → first rules ≡ suc n → told (refuse (suc n)) ≡ suc n) → told accept ≡ 0 → first rules ≡ told (answered refuse accept (first rules))
@@ -66,3 +84,9 @@ module _ {A : Type 0} (refuse : ℕ → A) (accept : A) (told : A → ℕ) where
 
     pub named_first : told accept ≡ 0 → FirstInOrder rules (told (answered refuse accept (first rules)))
     named_first z = answer_first rules (named_numbered rules t) its_number z
+
+-- so of what a judge answers that has nothing to say of what it accepts
+pub judged_first : (rules : List Rule) (r : Result Unit Refusal) → T (named rules) → r ≡ judged tt (first rules) → FirstInOrder rules (told_judged r).number
+judged_first rules r t e =
+    subst (λ (x : Result Unit Refusal). FirstInOrder rules (told_judged x).number) (sym e)
+    (named_first refused_by (Ok tt) (λ x. (told_judged x).number) (λ n. refl) rules t refl)

@@ -78,6 +78,14 @@ module _ (c : ℕ) where
       go false e true em = in_range 58 7 (λ c. 16) refl c (past decimal (ltb-false c 48 e)) (ltb-true c 65 em)
       go false e false em = in_range 71 185 (λ c. 16) refl c (past letter (ltb-false c 65 em)) byte
 
+-- and by all ranges at once
+abbrev pub by_range : ℕ → ℕ
+by_range c = pick (ltb c 48) 16 (pick (ltb c 58) (c - 48) (pick (ltb c 65) 16 (pick (ltb c 71) (c - 55) 16)))
+
+pub by_range_lem : (c : ℕ) → c < 256 → by_range c ≡ digit_of c
+unfolding pick ascii place_in digit_of
+by_range_lem c h = eqb-true (by_range c) (digit_of c) (below_all 256 (λ c. eqb (by_range c) (digit_of c)) refl c h)
+
 -- ---- there and back
 pub digit_of_digit : (d : ℕ) → d < 16 → digit_of (digit d) ≡ d
 unfolding pick ascii place_in digit_of digit

@@ -8,30 +8,32 @@ use lib.Dec.{T}
 use lib.ListN.{length, take, drop}
 use lib.Seq.{take-append_seam}
 use Rattle.wire.specs.Numbers.{over}
-use Rattle.wire.specs.Refusal.{Rule, first, named, FirstInOrder}
+use Rattle.wire.specs.Refusal.{Rule, first, numbered, FirstInOrder}
 use Rattle.std.specs.Prelude.{Result, Ok, Err}
 use Rattle.wire.specs.Answer.{refuse, judged}
-use Rattle.wire.specs.Numbered.{refusal}
+use Rattle.wire.specs.Numbered.{number_of, refusal}
 use Rattle.wire.specs.Writes.{Written, Writes, write_answer, write_output, told_written}
 use Rattle.wire.specs.declared.refusals.Refusal.{Refusal}
-use Rattle.wire.proofs.Answer.{named_first}
+use Rattle.wire.proofs.Rules.{in_order}
 
 module _ (bs out : List ℕ) where
   -- a refusal k + 1, which is the first
-  pub writes_refused : (k n : ℕ) (e : Refusal) → suc k ≡ n → e ≡ refusal (suc k) → Writes n bs out (Err e) out
-  writes_refused k n e en ee =
-      subst (λ (m : ℕ). Writes m bs out (Err e) out) en (record { answer = ap Err ee; output = refl })
+  pub writes_refused : (k n : ℕ) (e : Refusal) → suc k ≡ n → e ≡ refusal (suc k) → number_of e ≡ suc k → Writes n bs out (Err e) out
+  writes_refused k n e en ee et =
+      subst (λ (m : ℕ). Writes m bs out (Err e) out) en (record { answer = ap Err ee; output = refl; told = et })
 
-  -- as the code judges it: r is what a judge answered of n, which was a refusal
-  pub writes_judged : {B : Type 0} (y : B) (r : Result B Refusal) (n : ℕ) (e : Refusal) → r ≡ judged y n → r ≡ Err e → Writes n bs out (Err e) out
-  writes_judged {B = B} y r zero e j is = absurd (let z : ◌≡◌ {A = Result B Refusal} (Ok y) (Err e) = sym j ∙ is in cc)
-  writes_judged {B = B} y r (suc n) e j is =
-      record { answer = let z : ◌≡◌ {A = Result B Refusal} (Err (refusal (suc n))) (Err e) = sym j ∙ is in cc; output = refl }
+  -- as the code judges it: r is what a judge answered of n, which was a refusal, and its number (proofs/Rules, `first_named`)
+  pub writes_judged : {B : Type 0} (y : B) (r : Result B Refusal) (n : ℕ) (e : Refusal) → r ≡ judged y n → r ≡ Err e → ((n ≡ 0 → ⊥) → number_of (refusal n) ≡ n)
+      → Writes n bs out (Err e) out
+  writes_judged {B = B} y r zero e j is named = absurd (let z : ◌≡◌ {A = Result B Refusal} (Ok y) (Err e) = sym j ∙ is in cc)
+  writes_judged {B = B} y r (suc n) e j is named =
+      let same : e ≡ refusal (suc n) = let z : ◌≡◌ {A = Result B Refusal} (Err (refusal (suc n))) (Err e) = sym j ∙ is in cc in
+      writes_refused n (suc n) e refl same (ap number_of same ∙ named (λ (z : suc n ≡ 0). absurd (omega arith)))
 
   -- none
   pub writes_all : (n l : ℕ) (out' : List ℕ) → 0 ≡ n → l ≡ length bs → out' ≡ over out bs → Writes n bs out (Ok l) out'
   writes_all n l out' e el eo =
-      subst (λ (m : ℕ). Writes m bs out (Ok l) out') e (record { answer = ap Ok el; output = eo })
+      subst (λ (m : ℕ). Writes m bs out (Ok l) out') e (record { answer = ap Ok el; output = eo; told = refl })
 
   -- what a callee has shown of its own, later rules
   pub writes_as : (n m : ℕ) (r : Written) (out' : List ℕ) → n ≡ m → Writes n bs out r out' → Writes m bs out r out'
@@ -62,8 +64,6 @@ pub wrote_all : (n : ℕ) (bs out : List ℕ) (r : Written) (out' : List ℕ) �
 wrote_all n bs out r out' w z = (w.answer ∙ ap (λ (m : ℕ). write_answer m bs) z, w.output ∙ ap (λ (m : ℕ). write_output m bs out) z)
 
 -- demand 1 of the number that a writer tells
-pub written_first : (rules : List Rule) (bs out : List ℕ) (r : Written) (out' : List ℕ) → T (named rules) → Writes (first rules) bs out r out'
+pub written_first : (rules : List Rule) (bs out : List ℕ) (r : Written) (out' : List ℕ) → T (numbered rules) → Writes (first rules) bs out r out'
     → FirstInOrder rules (told_written r).number
-written_first rules bs out r out' t w =
-    subst (λ (x : Written). FirstInOrder rules (told_written x).number) (sym w.answer)
-    (named_first refuse (Ok (length bs)) (λ x. (told_written x).number) (λ n. refl) rules t refl)
+written_first rules bs out r out' t w = in_order rules _ t (sym w.told)

@@ -19,11 +19,13 @@ write_answer n bs = judged (length bs) n
 abbrev pub write_output : ℕ → List ℕ → List ℕ → List ℕ
 write_output n bs out = answered (λ _. out) (over out bs) n
 
-pub record Writes (n : ℕ) (bs out : List ℕ) (r : Written) (out' : List ℕ) : Type 0 where
-  pub answer : r ≡ write_answer n bs
-  pub output : out' ≡ write_output n bs out
-
 -- the length
 abbrev pub told_written : Written → Told
 told_written (Ok n) = accepted (n ∷ [])
 told_written (Err e) = refused (number_of e)
+
+-- "Each returns its number": the one that is told is n, so each rule's number is a refusal's (`named`)
+pub record Writes (n : ℕ) (bs out : List ℕ) (r : Written) (out' : List ℕ) : Type 0 where
+  pub answer : r ≡ write_answer n bs
+  pub output : out' ≡ write_output n bs out
+  pub told : (told_written r).number ≡ n

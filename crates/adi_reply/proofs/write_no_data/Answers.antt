@@ -9,4 +9,4 @@ pub returns-then-out-lt4 : goal.returns-then-out-lt4
 returns-then-out-lt4 c = refused_16 [] (no_data_bytes c.args.count c.args.length) _ tt refl 4 refl c.if-out-lt4.true
 
 pub returns : goal.returns
-returns c = stored [] (no_data_bytes c.args.count c.args.length) _ tt refl 4 refl c.if-out-lt4.false _ c.put_all.ensures
+returns c = stored [] (no_data_bytes c.args.count c.args.length) _ tt refl 4 refl c.if-out-lt4.false _ refl

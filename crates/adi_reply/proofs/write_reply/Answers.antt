@@ -13,7 +13,7 @@ use Rattle.wire.specs.Refusal.{first}
 use Rattle.adi.proofs.Room.{refused_judged, refused_16, stored}
 use Rattle.adi_reply.specs.Layout.{reply_bytes}
 use Rattle.adi_reply.specs.Writing.{cut, judge_rules}
-use Rattle.adi_reply.proofs.Judging.{Good, judge_numbered, judged_good}
+use Rattle.adi_reply.proofs.Judging.{Good, judge_named, judge_numbered, judged_good}
 use Rattle.adi_reply.proofs.Stores.{length_reply}
 use Rattle.adi_reply.proofs.write_reply.Goals as goal
 
@@ -27,7 +27,7 @@ within ns rs j = let g = accepted ns rs j in omega (arith, g.few, g.all)
 pub returns-in_err-judge : goal.returns-in_err-judge
 returns-in_err-judge c =
     let p = err_from_is_err_and c.from_residual.result c.from_residual.ensures.1 in
-    rw (p.1, p.2) (refused_judged (judge_rules c.args.lengths.now c.args.registers.now) _ _ _ c.in_err-judge.ensures)
+    rw (p.1, p.2) (refused_judged (judge_rules c.args.lengths.now c.args.registers.now) _ _ _ (judge_named c.args.lengths.now c.args.registers.now) c.in_err-judge.ensures)
 
 pub overflow_add-n : goal.overflow_add-n
 overflow_add-n c = omega (arith, within c.args.lengths.now c.args.registers.now c.in_ok-judge.ensures)
@@ -47,7 +47,7 @@ put_reply-requires c =
     let ns = c.args.lengths.now in
     let rs = c.args.registers.now in
     let j = c.in_ok-judge.ensures in
-    (within ns rs j, (accepted ns rs j).all)
+    (within ns rs j, (accepted ns rs j).all, c.if-out-n.false)
 
 pub returns : goal.returns
 returns c =

@@ -5,14 +5,14 @@ use Rattle.wire.proofs.Rules.{none_first}
 use Rattle.adi.proofs.Room.{refused_judged, refused_16, stored}
 use Rattle.adi_request.specs.Layout.{request_bytes}
 use Rattle.adi_request.specs.Writing.{given, judge_rules}
-use Rattle.adi_request.proofs.Judging.{judge_numbered, given_few}
+use Rattle.adi_request.proofs.Judging.{judge_named, judge_numbered, given_few}
 use Rattle.adi_request.proofs.Stores.{length_given}
 use Rattle.adi_request.proofs.write_request.Goals as goal
 
 pub returns-in_err-judge : goal.returns-in_err-judge
 returns-in_err-judge c =
     let p = err_from_is_err_and c.from_residual.result c.from_residual.ensures.1 in
-    rw (p.1, p.2) (refused_judged (judge_rules (given c.args.groups.now)) _ _ _ c.in_err-judge.ensures)
+    rw (p.1, p.2) (refused_judged (judge_rules (given c.args.groups.now)) _ _ _ (judge_named (given c.args.groups.now)) c.in_err-judge.ensures)
 
 pub returns-then-out-n : goal.returns-then-out-n
 returns-then-out-n c =

@@ -18,19 +18,19 @@ use Rattle.archive_card.proofs.to_archive_card.Goals as goal
 
 pub returns-then-other_length : goal.returns-then-other_length
 unfolding refusal
-returns-then-other_length c = writes_refused _ _ 49 _ _ (hit _ _ 50 _ c.other_length.ensures c.if-other_length.true) refl
+returns-then-other_length c = writes_refused _ _ 49 _ _ (hit _ _ 50 _ c.other_length.ensures c.if-other_length.true) refl refl
 
 pub returns-in_err-fault_of : goal.returns-in_err-fault_of
 returns-in_err-fault_of c =
     let a = c.args in
-    writes_more tt (read_rules a.bytes.now) (16 when too_small 18 a.out.now ∷ []) _ c.in_err-fault_of.ensures _ _ _ c.from_residual.ensures
+    writes_more tt (read_rules a.bytes.now) (16 when too_small 18 a.out.now ∷ []) _ c.in_err-fault_of.ensures tt _ _ _ c.from_residual.ensures
 
 pub returns-then-too_small : goal.returns-then-too_small
 unfolding refusal
 returns-then-too_small c =
     let a = c.args in
     writes_rest tt (read_rules a.bytes.now) (16 when too_small 18 a.out.now ∷ []) tt tt c.in_ok-fault_of.ensures _ _ _ _
-    (writes_refused _ _ 15 _ _ (hit _ _ 16 0 c.too_small.ensures c.if-too_small.true) refl)
+    (writes_refused _ _ 15 _ _ (hit _ _ 16 0 c.too_small.ensures c.if-too_small.true) refl refl)
 
 pub returns : goal.returns
 returns c =

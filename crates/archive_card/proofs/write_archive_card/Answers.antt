@@ -13,14 +13,14 @@ use Rattle.archive_card.proofs.write_archive_card.Goals as goal
 pub returns-in_err-judge_card : goal.returns-in_err-judge_card
 returns-in_err-judge_card c =
     let a = c.args in
-    writes_more tt (card_rules a.card) (56 when bad_archive a.kind ∷ 16 when too_small 18 a.out.now ∷ []) _ c.in_err-judge_card.ensures _ _ _ c.from_residual.ensures
+    writes_more tt (card_rules a.card) (56 when bad_archive a.kind ∷ 16 when too_small 18 a.out.now ∷ []) _ c.in_err-judge_card.ensures tt _ _ _ c.from_residual.ensures
 
 pub returns-in_err-judge_archive : goal.returns-in_err-judge_archive
 returns-in_err-judge_archive c =
     let a = c.args in
     let later = 16 when too_small 18 a.out.now ∷ [] in
     writes_rest tt (card_rules a.card) (56 when bad_archive a.kind ∷ later) tt tt c.in_ok-judge_card.ensures _ _ _ _
-    (writes_more tt (56 when bad_archive a.kind ∷ []) later _ c.in_err-judge_archive.ensures _ _ _ c.from_residual-in_err-judge_archive.ensures)
+    (writes_more tt (56 when bad_archive a.kind ∷ []) later _ c.in_err-judge_archive.ensures tt _ _ _ c.from_residual-in_err-judge_archive.ensures)
 
 pub returns : goal.returns
 returns c =

@@ -9,7 +9,7 @@ use Rattle.card.proofs.write_card.Goals as goal
 pub returns-in_err-judge_card : goal.returns-in_err-judge_card
 returns-in_err-judge_card c =
     let a = c.args in
-    writes_more tt (card_rules a.card) (16 when too_small 17 a.out.now ∷ []) _ c.in_err-judge_card.ensures _ _ _ c.from_residual.ensures
+    writes_more tt (card_rules a.card) (16 when too_small 17 a.out.now ∷ []) _ c.in_err-judge_card.ensures tt _ _ _ c.from_residual.ensures
 
 pub returns : goal.returns
 unfolding card_bytes

@@ -8,7 +8,7 @@ use Rattle.card_text.proofs.put_text.Goals as goal
 
 pub returns-then-too_small : goal.returns-then-too_small
 unfolding refusal
-returns-then-too_small c = writes_refused _ _ 15 _ _ (hit _ _ _ _ c.too_small.ensures c.if-too_small.true) refl
+returns-then-too_small c = writes_refused _ _ 15 _ _ (hit _ _ _ _ c.too_small.ensures c.if-too_small.true) refl refl
 
 pub returns : goal.returns
 returns c =

@@ -15,4 +15,4 @@ invariant_of-table c = record { holds = refl }
 pub overflow_cast-result : goal.overflow_cast-result
 overflow_cast-result c =
     let small = crc_from_lt c.args.start c.args.bytes.now c.ranges.start.fits (each_get_d (λ b. b < 256) _ (λ k. (c.type_inv.bytes k).fits)) in
-    record { fits = rw c.remainder.ensures small }
+    record { fits = rw c.remainder_after.ensures small }

@@ -12,4 +12,4 @@ invariant_of-table c = record { holds = refl }
 
 pub returns : goal.returns
 unfolding crc32_from
-returns c = ap turned c.remainder.ensures
+returns c = ap turned c.remainder_after.ensures

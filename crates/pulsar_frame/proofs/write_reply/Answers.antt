@@ -7,7 +7,7 @@ use Rattle.pulsar_frame.proofs.write_reply.Goals as goal
 
 pub returns-then-bad_own : goal.returns-then-bad_own
 unfolding refusal
-returns-then-bad_own c = writes_refused _ _ 0 _ _ (hit _ _ _ _ c.bad_own.ensures c.if-bad_own.true) refl
+returns-then-bad_own c = writes_refused _ _ 0 _ _ (hit _ _ _ _ c.bad_own.ensures c.if-bad_own.true) refl refl
 
 pub returns : goal.returns
 returns c = search (writes_as, skip) depth 4

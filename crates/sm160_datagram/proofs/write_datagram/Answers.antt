@@ -11,14 +11,14 @@ pub returns-then-options-gt4294967295 : goal.returns-then-options-gt4294967295
 unfolding refusal
 returns-then-options-gt4294967295 c =
     let long = lt-ltb _ _ c.if-options-gt4294967295.true in
-    writes_refused _ _ 36 _ _ (search hit depth 12) refl
+    writes_refused _ _ 36 _ _ (search hit depth 12) refl refl
 
 pub returns-then-out-n : goal.returns-then-out-n
 unfolding refusal
 returns-then-out-n c =
     let short = le-ltb _ _ c.if-options-gt4294967295.false in
     let room = lt-ltb _ _ c.if-out-n.true in
-    writes_refused _ _ 15 _ _ (search (hit, skip) depth 12) refl
+    writes_refused _ _ 15 _ _ (search (hit, skip) depth 12) refl refl
 
 pub returns : goal.returns
 returns c =

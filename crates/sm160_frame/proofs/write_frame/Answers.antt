@@ -10,17 +10,17 @@ use Rattle.sm160_frame.proofs.write_frame.Goals as goal
 
 pub returns-then-bad_part : goal.returns-then-bad_part
 unfolding refusal
-returns-then-bad_part c = writes_refused _ _ 22 _ _ (search (hit, skip) depth 12) refl
+returns-then-bad_part c = writes_refused _ _ 22 _ _ (search (hit, skip) depth 12) refl refl
 
 pub returns-then-bad_flags : goal.returns-then-bad_flags
 unfolding refusal
-returns-then-bad_flags c = writes_refused _ _ 24 _ _ (search (hit, skip) depth 12) refl
+returns-then-bad_flags c = writes_refused _ _ 24 _ _ (search (hit, skip) depth 12) refl refl
 
 pub returns-then-out-n : goal.returns-then-out-n
 unfolding refusal
 returns-then-out-n c =
     let room = lt-ltb _ _ c.if-out-n.true in
-    writes_refused _ _ 15 _ _ (search (hit, skip) depth 12) refl
+    writes_refused _ _ 15 _ _ (search (hit, skip) depth 12) refl refl
 
 pub put-requires : goal.put-requires
 put-requires c =

@@ -14,7 +14,7 @@ pub returns-then-too_small : goal.returns-then-too_small
 unfolding refusal
 returns-then-too_small g c =
     let room = c.too_small.ensures ∙ ap (λ (n : ℕ). too_small n c.args.out.now) (c.SIZE.ensures ∙ g.met.F.CardForm.laid.bytes) in
-    writes_refused _ _ 15 _ _ (hit _ _ 16 0 room c.if-too_small.true) refl
+    writes_refused _ _ 15 _ _ (hit _ _ 16 0 room c.if-too_small.true) refl refl
 
 pub returns : goal.returns
 returns g c =

@@ -9,11 +9,11 @@ use Rattle.pulsar_frame.proofs.write.write_frame.Goals as goal
 
 pub returns-then-too_long : goal.returns-then-too_long
 unfolding refusal
-returns-then-too_long c = writes_refused _ _ 16 _ _ (search (hit, skip) depth 4) refl
+returns-then-too_long c = writes_refused _ _ 16 _ _ (search (hit, skip) depth 4) refl refl
 
 pub returns-then-no_room : goal.returns-then-no_room
 unfolding refusal
-returns-then-no_room c = writes_refused _ _ 15 _ _ (search (hit, skip) depth 4) refl
+returns-then-no_room c = writes_refused _ _ 15 _ _ (search (hit, skip) depth 4) refl refl
 
 pub returns : goal.returns
 returns c =

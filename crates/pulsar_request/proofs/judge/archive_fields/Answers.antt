@@ -1,5 +1,6 @@
 -- `pulsar_request::judge::archive_fields` meets its contract.
 use mathlib.Core.List.{◌++◌}
+use borrow.Author.Rules.{rules}
 use Rattle.pulsar_body.specs.Fields.{one_faults, date_faults}
 use Rattle.wire.proofs.Answer.{handed_on}
 use Rattle.pulsar_body.proofs.Laws.{stretch_refused, stretch_passed}
@@ -23,7 +24,7 @@ returns-in_err-date_fault c =
     let a = c.args in
     handed_on _ _ _ _ _ c.from_residual-in_err-date_fault.ensures (
     stretch_passed (tt {0}) (one_faults a.mask) (type_rules a.archive_type ++ (date_faults a.from ++ date_faults a.to)) tt tt _ tt c.in_ok-one_fault.ensures
-    (stretch_passed (tt {0}) (type_rules a.archive_type) (date_faults a.from ++ date_faults a.to) tt tt _ tt c.in_ok-type_fault.ensures
+    (stretch_passed (tt {0}) (type_rules a.archive_type) (date_faults a.from ++ date_faults a.to) (tt {0}) (tt {0}) _ tt (search rules)
     (stretch_refused (tt {0}) (date_faults a.from) (date_faults a.to) tt _ c.in_err-date_fault.ensures)))
 
 pub returns : goal.returns
